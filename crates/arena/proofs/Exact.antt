@@ -9,6 +9,7 @@ use lib.Dec.{T, T-not, not-T}
 use Rattle.arena.specs.Tests.{_∈_}
 use Rattle.arena.specs.Arena.{Next, miss, go, Outcome, out, Arena, Sound, lands, left, lost, same, R, falls, safe, shield, used, passes}
 use Rattle.arena.specs.Plays.{Scheduler, Tick, Misses, MissesIn, Never}
+use Rattle.arena.proofs.Tests.{decide}
 use Rattle.arena.proofs.Rounds.{fine-legal, fine-lands, fine-by, same-at, same-by, lost-at, lost-by, R-same, R-least, R-le, falls-lost, falls-least, falls-range}
 use Rattle.arena.proofs.Tables.{used-safe, named-shield, start-safe, shield-passes}
 use Rattle.arena.proofs.Plays.{forced, avoids, never, never-safe}
@@ -62,6 +63,10 @@ module _ {Seen : Type 0} (A : Arena Seen) (L : Sound A) where
   -- k rounds remove a state if and only if from there a miss can be forced within k ticks, against every scheduler
   pub lost-iff : (k s : ℕ) → s < A .size → T (lost A k s) ↔ ((σ : Scheduler A) → MissesIn k σ [] s)
   lost-iff k s b = (λ n σ. forced A L k σ [] s b n, λ f. not-T (left A k s) (λ t. let w = avoids A L k s b t in w .1 (f (w .0))))
+
+  -- k rounds leave a state if and only if from there some scheduler avoids a miss for k ticks
+  pub left-iff : (k s : ℕ) → s < A .size → T (left A k s) ↔ ((σ : Scheduler A) × (MissesIn k σ [] s → ⊥))
+  left-iff k s b = (avoids A L k s b, λ w. ⊎-elim (λ t. t) (λ n. absurd (w .1 (forced A L k (w .0) [] s b n))) (decide (left A k s)))
 
   -- a state is safe if and only if from there some scheduler never misses
   pub safe-iff : (s : ℕ) → s < A .size → T (safe A s) ↔ ((σ : Scheduler A) × Never σ s)

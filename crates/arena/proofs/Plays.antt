@@ -2,7 +2,7 @@
 -- Assumes nothing.
 use mathlib.Core.Path.{_≡_, subst}
 use mathlib.Core.Logic.{⊎-elim}
-use mathlib.Core.Bool.{Bool, true, false, not, cond}
+use mathlib.Core.Bool.{Bool, not, cond}
 use mathlib.Core.List.{List, [], _∷_}
 use Prim.Native.Nat.{ℕ, zero, suc, _<_, _+_, _-_}
 use native.Mathlib.Omega.{arith}
@@ -34,15 +34,15 @@ module _ {Seen : Type 0} (A : Arena Seen) (L : Sound A) where
           (record { seen = v; to = t } ∷ p .0, omega (arith, p .1), (m, p .2))
 
   -- a choice that is fine for X where there is one, and a legal one elsewhere
-  abbrev pub pick : (ℕ → Bool) → ℕ → ℕ
+  abbrev pick : (ℕ → Bool) → ℕ → ℕ
   pick X s = cond (keeps A X s) (first (fine A X s) (A .width) 0) (first (A .legal s) (A .width) 0)
 
-  pub pick-fine : (X : ℕ → Bool) (s : ℕ) → T (keeps A X s) → T (fine A X s (pick X s))
+  pick-fine : (X : ℕ → Bool) (s : ℕ) → T (keeps A X s) → T (fine A X s (pick X s))
   pick-fine X s t =
       by-cond (λ c. T (fine A X s c)) (keeps A X s) _ _ (λ _. first-below (fine A X s) (A .width) t)
       (λ n. absurd (T-not (keeps A X s) n t))
 
-  pub pick-legal : (X : ℕ → Bool) (s : ℕ) → s < A .size → T (A .legal s (pick X s))
+  pick-legal : (X : ℕ → Bool) (s : ℕ) → s < A .size → T (A .legal s (pick X s))
   pick-legal X s b =
       by-cond (λ c. T (A .legal s c)) (keeps A X s) _ _
       (λ t. fine-legal A X s (first (fine A X s) (A .width) 0) (first-below (fine A X s) (A .width) t))
@@ -50,14 +50,14 @@ module _ {Seen : Type 0} (A : Arena Seen) (L : Sound A) where
 
   -- the scheduler that tries, after n ticks, to land in X (n + 1)
   module _ (X : ℕ → ℕ → Bool) where
-    abbrev pub picker : Scheduler A
+    abbrev picker : Scheduler A
     picker = record {
       choose = λ h s. pick (X (suc (length h))) s;
       legal = λ h s b. pick-legal (X (suc (length h))) s b;
     }
 
     -- it does not miss within k ticks if for each n below k some choice leads from X n into X (n + 1)
-    pub survives : (k : ℕ) → ((n s : ℕ) → n < k → s < A .size → T (X n s) → T (keeps A (X (suc n)) s))
+    survives : (k : ℕ) → ((n s : ℕ) → n < k → s < A .size → T (X n s) → T (keeps A (X (suc n)) s))
         → (p : List (Tick Seen)) (h : List (Step Seen)) (s : ℕ) → s < A .size → length h + length p < k → T (X (length h) s) → Misses picker h s p → ⊥
     survives k step [] h s b d x m =
         let Y = X (suc (length h)) in

@@ -7,9 +7,9 @@ use Prim.Native.Nat.{ℕ, zero, suc, _≤_, _<_}
 use native.Mathlib.Nat.{le-of-suc-le-suc, not-suc-le-zero, eq-or-lt-of-le}
 use native.Mathlib.Omega.{arith}
 use lib.Dec.{T, T-not, not-T}
-use Rattle.arena.specs.Tests.{_∈_, all, anyBelow, count, first}
+use Rattle.arena.specs.Tests.{_∈_, all, count, first}
 use Rattle.arena.specs.Arena.{Next, miss, go, Outcome, out, Arena, Sound, lands, fine, keeps, left, lost, same, R, falls, safe}
-use Rattle.arena.proofs.Tests.{decide, lt-or-le, not-not, T-ext, beq-at, beq-by, beq-fails, and-left, and-right, and-by, and-fails, by-cond, all-at, all-by, all-fails, allBelow-at, allBelow-by, allBelow-fails, anyBelow-at, anyBelow-by, anyBelow-cong, count-le, count-zero, count-mono, count-less, first-le, first-least, first-at}
+use Rattle.arena.proofs.Tests.{decide, lt-or-le, not-not, T-ext, beq-at, beq-by, beq-fails, and-left, and-right, and-by, and-fails, by-cond, all-at, all-by, all-fails, allBelow-at, allBelow-by, allBelow-fails, anyBelow-at, anyBelow-by, anyBelow-cong, count-le, count-mono, count-less, first-le, first-least, first-at}
 
 module _ {Seen : Type 0} (A : Arena Seen) where
   -- each outcome of the choice c in s is no miss and on a state of X
@@ -89,7 +89,7 @@ module _ {Seen : Type 0} (A : Arena Seen) where
       T-not (lands (left A k) (o .0 .next)) (o .2) (fine-lands (left A k) s (w .0) (w .2) (o .0) (o .1)))
 
 module _ {Seen : Type 0} (A : Arena Seen) (L : Sound A) where
-  -- and only then
+  -- in a state that k + 1 rounds remove, every legal choice has such an outcome
   pub lost-at : (k s : ℕ) → s < A .size → T (lost A (suc k) s) → (c : ℕ) → T (A .legal s c) → (o : Outcome Seen) × (o ∈ A .outs s c) × T (not (lands (left A k) (o .next)))
   lost-at k s b n c l =
       fine-fails A (left A k) s c

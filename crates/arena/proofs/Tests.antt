@@ -1,6 +1,6 @@
 -- What a test that passed says (`-at`), what makes it pass (`-by`), and what one that failed says (`-fails`).
 -- Assumes nothing.
-use mathlib.Core.Path.{_≡_, refl, subst, sym, ap, ap₂}
+use mathlib.Core.Path.{_≡_, refl, subst, sym, ap₂}
 use mathlib.Core.Logic.{_⊎_, inl, inr, ⊎-elim}
 use mathlib.Core.Bool.{Bool, true, false, not, _&&_, _||_, cond, Bool·beq}
 use mathlib.Core.List.{List, [], _∷_, List·Memᴰ·head, List·Memᴰ·tail}
@@ -162,10 +162,6 @@ one-le : (b : Bool) → one b ≤ 1
 one-le true = omega arith
 one-le false = omega arith
 
-one-none : (b : Bool) → one b ≤ 0 → T (not b)
-one-none true h = absurd (not-suc-le-zero h)
-one-none false h = tt
-
 one-mono : (a b : Bool) → (T a → T b) → one a ≤ one b
 one-mono true true h = omega arith
 one-mono true false h = absurd (h tt)
@@ -179,14 +175,6 @@ one-less false false p q = absurd q
 pub count-le : (n : ℕ) (f : ℕ → Bool) → count n f ≤ n
 count-le zero f = omega arith
 count-le (suc n) f = omega (arith, one-le (f n), count-le n f)
-
-pub count-zero : (n : ℕ) (f : ℕ → Bool) → count n f ≤ 0 → (i : ℕ) → i < n → T (not (f i))
-count-zero zero f h i l = absurd (not-suc-le-zero l)
-count-zero (suc n) f h i l = go (below-cases l) (count-zero n f (omega arith) i)
-  where
-    go : (i ≡ n) ⊎ (i < n) → (i < n → T (not (f i))) → T (not (f i))
-    go (inl e) r = subst (λ (k : ℕ). T (not (f k))) (sym e) (one-none (f n) (omega arith))
-    go (inr k) r = r k
 
 pub count-cong : (n : ℕ) (f g : ℕ → Bool) → ((i : ℕ) → i < n → f i ≡ g i) → count n f ≡ count n g
 count-cong zero f g h = refl

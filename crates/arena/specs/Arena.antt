@@ -20,21 +20,25 @@ pub record Outcome (Seen : Type 0) : Type 0 where
 abbrev pub out : {Seen : Type 0} → Seen → Next → Outcome Seen
 out v n = record { seen = v; next = n }
 
--- the states are the numbers below size, the choices of the scheduler are below width
+-- the states are the numbers below size; a choice of the scheduler may be legal in a state, and has its outcomes there
 pub record Arena (Seen : Type 0) : Type 0 where
   pub size : ℕ
   pub start : ℕ
   pub width : ℕ
-  -- whether the choice c may be made in the state s, and its outcomes there
   pub legal : ℕ → ℕ → Bool
   pub outs : ℕ → ℕ → List (Outcome Seen)
 
--- the laws: of each state some choice is legal, a legal choice has an outcome, and no outcome leaves the states
+-- the laws of an arena
 pub record Sound {Seen : Type 0} (A : Arena Seen) : Type 0 where
+  -- the start is a state
   pub start : A .start < A .size
+  -- in each state some choice is legal
   pub some : (s : ℕ) → s < A .size → T (anyBelow (A .width) (A .legal s))
+  -- legal choices are below width
   pub below : (s c : ℕ) → s < A .size → T (A .legal s c) → c < A .width
+  -- a legal choice has an outcome
   pub moves : (s c : ℕ) → s < A .size → T (A .legal s c) → (o : Outcome Seen) × (o ∈ A .outs s c)
+  -- an outcome of a legal choice leads to a state, unless it is a miss
   pub closed : (s c : ℕ) → s < A .size → T (A .legal s c) → (v : Seen) (t : ℕ) → out v (go t) ∈ A .outs s c → t < A .size
 
 -- no miss, and on a state of X
@@ -51,7 +55,7 @@ module _ {Seen : Type 0} (A : Arena Seen) where
   abbrev pub keeps : (ℕ → Bool) → ℕ → Bool
   keeps X s = anyBelow (A .width) (fine X s)
 
-  -- the states that k rounds leave: all at first, then those with a choice that is fine for what was left before
+  -- the states that k rounds leave: all states at first; a round leaves those with a choice that is fine for what was left
   abbrev pub left : ℕ → ℕ → Bool
   left zero s = true
   left (suc k) s = keeps (left k) s
@@ -68,7 +72,7 @@ module _ {Seen : Type 0} (A : Arena Seen) where
   abbrev pub R : ℕ
   R = first same (A .size) 0
 
-  -- the round in which a state falls that is not safe
+  -- the round in which a state falls, if it does
   abbrev pub falls : ℕ → ℕ
   falls s = first (λ k. lost k s) (A .size) 0
 
@@ -88,10 +92,10 @@ module _ {Seen : Type 0} (A : Arena Seen) where
   abbrev pub used : (ℕ → ℕ → Bool) → ℕ → Bool
   used t s = anyBelow (A .width) (t s)
 
-  -- each choice that the table t names in a state is fine for X
-  abbrev pub guards : (ℕ → ℕ → Bool) → (ℕ → Bool) → Bool
-  guards t X = allBelow (A .size) (λ s. allBelow (A .width) (λ c. imp (t s c) (fine X s c)))
+  -- each choice that the table names in s is legal there, with all outcomes no miss and on states where the table is used
+  abbrev pub guards : (ℕ → ℕ → Bool) → ℕ → Bool
+  guards t s = allBelow (A .width) (λ c. imp (t s c) (fine (used t) s c))
 
-  -- the test: the table is used at the start, and each choice that it names is legal, with all outcomes no miss and where it is used
+  -- the test of a table: it is used at the start, and in no state does it name another choice
   abbrev pub passes : (ℕ → ℕ → Bool) → Bool
-  passes t = used t (A .start) && guards t (used t)
+  passes t = used t (A .start) && allBelow (A .size) (guards t)
