@@ -3,7 +3,7 @@
 use mathlib.Core.Path.{_≡_, refl, sym, ap, subst, _∙_}
 use mathlib.Core.Logic.{_⊎_, ⊎-elim, _↔_}
 use mathlib.Core.Bool.{Bool, true, false, _&&_}
-use mathlib.Core.List.{List, [], _∷_, List·Memᴰ, List·Memᴰ·head, List·Memᴰ·tail, List·Memᴰ·cases-cons}
+use mathlib.Core.List.{List, [], _∷_, List·Memᴰ·head, List·Memᴰ·tail, List·Memᴰ·cases-cons}
 use Prim.Native.Nat.{ℕ, zero, suc, _+_, _-_, _*_, _/_, _%_, _^_, _<_, _≤_}
 use native.Mathlib.Nat.{add-zero, add-suc, suc-add, pow-suc, pow-succ', mod-lt, zero-lt-suc, div-div-eq-div-mul, le-refl, le-trans, le-of-eq}
 use native.Mathlib.Numerals.{one-add}
@@ -12,19 +12,9 @@ use lib.Dec.{T, eqb, ltb, eqb→eq, lt→ltb, ltb→lt}
 use lib.ListN.{length}
 use borrow.Author.Tests.{lt-ltb, le-ltb}
 use lib.Count.{ones, ones-step, leadingZeros, trailingZeros, under}
+use Rattle.arena.specs.Tests.{_∈_}
+use Rattle.arena.proofs.Tests.{and-left, and-right, and-by}
 use Rattle.tasks.specs.Lists.{width, values, valuesOf, here, headOr, lastOr, shortestOf, longestOf, lengthOf, listed}
-
-and-left : (a b : Bool) → T (a && b) → T a
-and-left true b t = tt
-and-left false b t = absurd t
-
-and-right : (a b : Bool) → T (a && b) → T b
-and-right true b t = t
-and-right false b t = absurd t
-
-and-by : (a b : Bool) → T a → T b → T (a && b)
-and-by true b s t = t
-and-by false b s t = absurd s
 
 half : (d m : ℕ) → m < 2 ^ suc d → m / 2 < 2 ^ d
 half d m h = omega (arith, pow-suc 2 d)
@@ -93,31 +83,31 @@ Bit m j = m / 2 ^ j % 2 ≡ 1
 bit-half : (m j : ℕ) → m / 2 ^ suc j ≡ m / 2 / 2 ^ j
 bit-half m j = ap (λ (x : ℕ). m / x) (pow-succ' 2 j) ∙ sym (div-div-eq-div-mul m 2 (2 ^ j))
 
-into : (b k v : ℕ) (l : List ℕ) → List·Memᴰ v l → List·Memᴰ v (here b k l)
+into : (b k v : ℕ) (l : List ℕ) → v ∈ l → v ∈ here b k l
 into zero k v l p = p
 into (suc b) k v l p = List·Memᴰ·tail p
 
-first : (b k : ℕ) (l : List ℕ) → b ≡ 1 → List·Memᴰ k (here b k l)
+first : (b k : ℕ) (l : List ℕ) → b ≡ 1 → k ∈ here b k l
 first zero k l e = let z : ⊥ = omega arith in absurd z
 first (suc b) k l e = List·Memᴰ·head refl
 
 -- a set bit is a value, and a value a set bit
-pub values-by : (d k m j : ℕ) → j < d → Bit m j → List·Memᴰ (k + j) (values d k m)
+pub values-by : (d k m j : ℕ) → j < d → Bit m j → k + j ∈ values d k m
 unfolding values
 values-by zero k m j h e = let z : ⊥ = omega arith in absurd z
 values-by (suc d) k m zero h e =
     let l = values d (suc k) (m / 2) in
     let b : m % 2 ≡ 1 = omega arith in
-    subst (λ (v : ℕ). List·Memᴰ v (here (m % 2) k l)) (sym (add-zero k)) (first (m % 2) k l b)
+    subst (λ (v : ℕ). v ∈ here (m % 2) k l) (sym (add-zero k)) (first (m % 2) k l b)
 values-by (suc d) k m (suc j) h e =
     let l = values d (suc k) (m / 2) in
     let i = values-by d (suc k) (m / 2) j (omega arith) (subst (λ (x : ℕ). x % 2 ≡ 1) (bit-half m j) e) in
-    into (m % 2) k (k + suc j) l (subst (λ (v : ℕ). List·Memᴰ v l) (suc-add k j ∙ sym (add-suc k j)) i)
+    into (m % 2) k (k + suc j) l (subst (λ (v : ℕ). v ∈ l) (suc-add k j ∙ sym (add-suc k j)) i)
 
 abbrev Found : ℕ → ℕ → ℕ → ℕ → Type 0
 Found d k m v = (j : ℕ) × (j < d) × (v ≡ k + j) × Bit m j
 
-pub values-at : (d k m v : ℕ) → List·Memᴰ v (values d k m) → Found d k m v
+pub values-at : (d k m v : ℕ) → v ∈ values d k m → Found d k m v
 unfolding values
 values-at zero k m v p = elim p [ ]
 values-at (suc d) k m v p = split (m % 2) (mod-lt m (zero-lt-suc 1)) refl p (values-at d (suc k) (m / 2) v)
@@ -128,17 +118,17 @@ values-at (suc d) k m v p = split (m % 2) (mod-lt m (zero-lt-suc 1)) refl p (val
     lowest : (b : ℕ) → suc b < 2 → m % 2 ≡ suc b → v ≡ k → Found (suc d) k m v
     lowest b h e q = (0, omega arith, omega arith, omega arith)
 
-    split : (b : ℕ) → b < 2 → m % 2 ≡ b → List·Memᴰ v (here b k (values d (suc k) (m / 2)))
-        → (List·Memᴰ v (values d (suc k) (m / 2)) → Found d (suc k) (m / 2) v) → Found (suc d) k m v
+    split : (b : ℕ) → b < 2 → m % 2 ≡ b → v ∈ here b k (values d (suc k) (m / 2))
+        → (v ∈ values d (suc k) (m / 2) → Found d (suc k) (m / 2) v) → Found (suc d) k m v
     split zero h e q r = later (r q)
     split (suc b) h e q r = ⊎-elim (lowest b h e) (λ q. later (r q)) (List·Memᴰ·cases-cons q)
 
-last-in : (e x : ℕ) (l : List ℕ) → List·Memᴰ (lastOr e (x ∷ l)) (x ∷ l)
+last-in : (e x : ℕ) (l : List ℕ) → lastOr e (x ∷ l) ∈ (x ∷ l)
 last-in e x [] = List·Memᴰ·head refl
 last-in e x (y ∷ l) = List·Memᴰ·tail (last-in x y l)
 
 -- the last value is a value, where there is one
-pub last-value : (e : ℕ) (l : List ℕ) → 0 < length l → List·Memᴰ (lastOr e l) l
+pub last-value : (e : ℕ) (l : List ℕ) → 0 < length l → lastOr e l ∈ l
 last-value e [] h = let z : ⊥ = omega arith in absurd z
 last-value e (x ∷ l) h = last-in e x l
 
@@ -152,44 +142,44 @@ last-from (suc d) k m e h = from (m % 2) (last-from d (suc k) (m / 2) e (omega a
     from zero p q = p
     from (suc b) p q = le-trans h q
 
-pub last-above : (d k m e v : ℕ) → List·Memᴰ v (values d k m) → v ≤ lastOr e (values d k m)
+pub last-above : (d k m e v : ℕ) → v ∈ values d k m → v ≤ lastOr e (values d k m)
 unfolding values
 last-above zero k m e v p = elim p [ ]
 last-above (suc d) k m e v p = above (m % 2) p (last-above d (suc k) (m / 2) e v) (last-above d (suc k) (m / 2) k v)
   where
-    above : (b : ℕ) → List·Memᴰ v (here b k (values d (suc k) (m / 2)))
-        → (List·Memᴰ v (values d (suc k) (m / 2)) → v ≤ lastOr e (values d (suc k) (m / 2)))
-        → (List·Memᴰ v (values d (suc k) (m / 2)) → v ≤ lastOr k (values d (suc k) (m / 2)))
+    above : (b : ℕ) → v ∈ here b k (values d (suc k) (m / 2))
+        → (v ∈ values d (suc k) (m / 2) → v ≤ lastOr e (values d (suc k) (m / 2)))
+        → (v ∈ values d (suc k) (m / 2) → v ≤ lastOr k (values d (suc k) (m / 2)))
         → v ≤ lastOr e (here b k (values d (suc k) (m / 2)))
     above zero q r s = r q
     above (suc b) q r s =
         ⊎-elim (λ w. subst (λ (x : ℕ). x ≤ lastOr k (values d (suc k) (m / 2))) (sym w) (last-from d (suc k) (m / 2) k (omega arith))) s (List·Memᴰ·cases-cons q)
 
 -- no value is below the first
-pub first-below : (d k m e v : ℕ) → List·Memᴰ v (values d k m) → headOr e (values d k m) ≤ v
+pub first-below : (d k m e v : ℕ) → v ∈ values d k m → headOr e (values d k m) ≤ v
 unfolding values
 first-below zero k m e v p = elim p [ ]
 first-below (suc d) k m e v p = below (m % 2) p (first-below d (suc k) (m / 2) e v) (values-at d (suc k) (m / 2) v)
   where
-    below : (b : ℕ) → List·Memᴰ v (here b k (values d (suc k) (m / 2)))
-        → (List·Memᴰ v (values d (suc k) (m / 2)) → headOr e (values d (suc k) (m / 2)) ≤ v)
-        → (List·Memᴰ v (values d (suc k) (m / 2)) → Found d (suc k) (m / 2) v)
+    below : (b : ℕ) → v ∈ here b k (values d (suc k) (m / 2))
+        → (v ∈ values d (suc k) (m / 2) → headOr e (values d (suc k) (m / 2)) ≤ v)
+        → (v ∈ values d (suc k) (m / 2) → Found d (suc k) (m / 2) v)
         → headOr e (here b k (values d (suc k) (m / 2))) ≤ v
     below zero q r s = r q
     below (suc b) q r s = ⊎-elim (λ w. le-of-eq (sym w)) (λ q. omega (arith, s q .2)) (List·Memᴰ·cases-cons q)
 
 -- a value is on the list exactly if it is one of its values
-pub listed-values : (m v : ℕ) → T (listed m v) ↔ List·Memᴰ v (valuesOf m)
+pub listed-values : (m v : ℕ) → T (listed m v) ↔ v ∈ valuesOf m
 unfolding listed
 listed-values m zero = (λ t. absurd t, λ p. let w = values-at width 1 m 0 p in omega (arith, w .2))
 listed-values m (suc k) = (into-values, from-values)
   where
-    into-values : T (ltb k width && eqb (m / 2 ^ k % 2) 1) → List·Memᴰ (suc k) (valuesOf m)
+    into-values : T (ltb k width && eqb (m / 2 ^ k % 2) 1) → suc k ∈ valuesOf m
     into-values t =
         let p = values-by width 1 m k (ltb→lt k width (and-left (ltb k width) _ t)) (eqb→eq (m / 2 ^ k % 2) 1 (and-right (ltb k width) _ t)) in
-        subst (λ (v : ℕ). List·Memᴰ v (valuesOf m)) (one-add k) p
+        subst (λ (v : ℕ). v ∈ valuesOf m) (one-add k) p
 
-    from-values : List·Memᴰ (suc k) (valuesOf m) → T (ltb k width && eqb (m / 2 ^ k % 2) 1)
+    from-values : suc k ∈ valuesOf m → T (ltb k width && eqb (m / 2 ^ k % 2) 1)
     from-values p =
         let w = values-at width 1 m (suc k) p in
         let e : w .0 ≡ k = omega (arith, w .2) in
@@ -209,7 +199,7 @@ pub longest-le : (m : ℕ) → longestOf m ≤ width
 unfolding longestOf
 longest-le m = within (valuesOf m) (λ v p. let w = values-at width 1 m v p in omega (arith, w .1, w .2))
   where
-    within : (l : List ℕ) → ((v : ℕ) → List·Memᴰ v l → v ≤ width) → lastOr 0 l ≤ width
+    within : (l : List ℕ) → ((v : ℕ) → v ∈ l → v ≤ width) → lastOr 0 l ≤ width
     within [] h = omega arith
     within (x ∷ l) h = h (lastOr 0 (x ∷ l)) (last-in 0 x l)
 

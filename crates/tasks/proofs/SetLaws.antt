@@ -6,10 +6,11 @@ use Prim.Native.Nat.{ℕ, zero, suc, _+_, _-_, _*_, _^_, _≤_, _<_}
 use native.Mathlib.Nat.{mul-le-mul, pow-suc, pow-le-pow-right, le-trans, le-of-eq}
 use native.Mathlib.Numerals.{add-one}
 use native.Mathlib.Omega.{arith}
-use lib.Dec.{eqb, leb, ltb}
+use lib.Dec.{T, eqb, leb, ltb, leb→le}
 use lib.ListN.{length, getD, drop}
 use lib.Seq.{drop-cons, drop-length}
-use borrow.Author.Tests.{eq-eqb, ne-eqb, lt-ltb, le-ltb, leb-true}
+use borrow.Author.Tests.{eq-eqb, ne-eqb, lt-ltb, le-ltb}
+use Rattle.arena.proofs.Tests.{and-left, and-right}
 use Rattle.tasks.specs.declared.sets.Task.{Task}
 use Rattle.tasks.specs.declared.sets.Set.{Set}
 use Rattle.tasks.specs.declared.sets.Tested.{Tested}
@@ -17,16 +18,8 @@ use Rattle.tasks.specs.declared.sets.Tested.the-variants.{States, Refuse
 use Rattle.tasks.specs.Refusals.{badRecord, tooManyStates}
 use Rattle.tasks.specs.Sets.{within, faultAt, statesOf, refuseOr, lowestFault, testStates, testSet, nameByte, characters, zeros, goodName, blank, taskAt, localsOf, statesTo}
 
-and-left : (a b : Bool) → (a && b) ≡ true → a ≡ true
-and-left true b e = refl
-and-left false b e = e
-
-and-right : (a b : Bool) → (a && b) ≡ true → b ≡ true
-and-right true b e = e
-and-right false b e = cc
-
-pub within-both : (lo hi n : ℕ) → within lo hi n ≡ true → (lo ≤ n) × (n ≤ hi)
-within-both lo hi n e = (leb-true lo n (and-left (leb lo n) (leb n hi) e), leb-true n hi (and-right (leb lo n) (leb n hi) e))
+pub within-both : (lo hi n : ℕ) → T (within lo hi n) → (lo ≤ n) × (n ≤ hi)
+within-both lo hi n t = (leb→le lo n (and-left (leb lo n) (leb n hi) t), leb→le n hi (and-right (leb lo n) (leb n hi) t))
 
 -- a name from place n on
 module _ (name : List ℕ) (n : ℕ) where

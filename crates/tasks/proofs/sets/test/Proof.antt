@@ -2,9 +2,10 @@
 use borrow.Author.Needs.{needs}
 use borrow.Author.Tests.{not-true, not-false}
 use mathlib.Core.Bool.{true, false}
-use mathlib.Core.Path.{_≡_, sym, ap, _∙_}
+use mathlib.Core.Path.{_≡_, sym, ap, subst, _∙_}
 use Prim.Native.Nat.{_+_, _-_, _≤_}
 use native.Mathlib.Omega.{arith}
+use lib.Dec.{T}
 use Rattle.tasks.specs.declared.sets.Tested.the-variants.{States, Refused}
 use Rattle.tasks.specs.Sets.{lowestFault, testStates, testSet}
 use Rattle.tasks.proofs.SetLaws.{within-both, test-unnamed, test-counted, fault-here, fault-none, fault-end, states-over, states-fit}
@@ -57,7 +58,9 @@ loop-again c = let s = c .before .before .before .before .before .before .before
     (omega arith, c .before .before .before .loop .inv .1 ∙ fault-none s (c .before .before .before .loop .i) (testStates s) (c .before .before .loop-test .taken) (sym (c .before .fault-at .ensures) ∙ c .if3 .left))
 
 states-requires : tie.Need-states-requires Inv-loop μ-loop
-states-requires c κs = within-both 1 7 _ (sym (c .before .before .before .from-to .ensures) ∙ not-false _ (c .before .before .if2 .left)) .1
+states-requires c κs =
+    let e = sym (c .before .before .before .from-to .ensures) ∙ not-false _ (c .before .before .if2 .left) in
+    within-both 1 7 _ (subst T (sym e) tt) .1
 
 returns-4 : tie.Need-returns-4 Inv-loop μ-loop
 returns-4 c = let s = c .before .before .before .before .before .before .before .before .before .args .s in
