@@ -1,2 +1,3 @@
 pub mod ListLaws
 pub mod SetLaws
+pub mod Valid
