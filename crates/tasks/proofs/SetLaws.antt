@@ -3,7 +3,7 @@ use mathlib.Core.Path.{_≡_, refl, sym, ap, ap₂, _∙_}
 use mathlib.Core.Bool.{Bool, true, false, not, _&&_, cond}
 use mathlib.Core.List.{List, [], _∷_}
 use Prim.Native.Nat.{ℕ, zero, suc, _+_, _-_, _*_, _^_, _≤_, _<_}
-use native.Mathlib.Nat.{mul-le-mul, pow-suc, pow-le-pow-right, le-trans, le-of-eq}
+use native.Mathlib.Nat.{mul-le-mul, pow-succ', pow-le-pow-right, le-trans, le-of-eq}
 use native.Mathlib.Numerals.{add-one}
 use native.Mathlib.Omega.{arith}
 use lib.Dec.{T, eqb, leb, ltb, leb→le}
@@ -76,12 +76,12 @@ unfolding blank
 blank-last τ k d r = simp (eq-eqb _ _ k, eq-eqb _ _ d, eq-eqb _ _ r)
 
 -- one task more, with at most 272 local numbers
-pub states-step : (s : Set) (i n l : ℕ) → n ≡ statesTo s i → l ≡ localsOf (taskAt s i) → n * l ≡ statesTo s (i + 1)
+pub states-step : (s : Set) (i n l : ℕ) → n ≡ statesTo s i → l ≡ localsOf (taskAt s i) → l * n ≡ statesTo s (i + 1)
 unfolding statesTo
 states-step s i n l p q = simp (p, q) (ap (statesTo s) (sym (add-one i)))
 
-pub bound-step : (i n l : ℕ) → n ≤ 272 ^ i → l ≤ 272 → n * l ≤ 272 ^ (i + 1)
-bound-step i n l p q = le-trans (mul-le-mul p q) (le-of-eq (sym (pow-suc 272 i) ∙ ap (λ (k : ℕ). 272 ^ k) (sym (add-one i))))
+pub bound-step : (i n l : ℕ) → n ≤ 272 ^ i → l ≤ 272 → l * n ≤ 272 ^ (i + 1)
+bound-step i n l p q = le-trans (mul-le-mul q p) (le-of-eq (sym (pow-succ' 272 i) ∙ ap (λ (k : ℕ). 272 ^ k) (sym (add-one i))))
 
 pub bound-top : (i n : ℕ) → n ≤ 272 ^ i → i ≤ 7 → n ≤ 272 ^ 7
 bound-top i n p h = le-trans p (pow-le-pow-right (omega arith) h)

@@ -78,7 +78,7 @@ localsOf τ = amax τ * (cmax τ + 1)
 -- the product of the first k tasks' numbers of locals
 unfoldable pub statesTo : Set → ℕ → ℕ
 statesTo s zero = 1
-statesTo s (suc k) = statesTo s k * localsOf (taskAt s k)
+statesTo s (suc k) = localsOf (taskAt s k) * statesTo s k
 
 -- the number of states S
 abbrev pub statesOf : Set → ℕ

@@ -159,7 +159,7 @@ fn states(s: Set) -> u64
     let mut i = 0;
     while i < s.count as usize {
         let t = s.tasks[i];
-        n = n * (locals(t) as u64);
+        n = (locals(t) as u64) * n;
         i += 1;
     }
     n
