@@ -14,7 +14,7 @@ use Rattle.tasks.specs.declared.sets.Tested.{Tested}
 use Rattle.tasks.specs.declared.sets.Tested.the-variants.{States, Refused}
 use Rattle.tasks.specs.Lists.{lengthOf, shortestOf}
 use Rattle.tasks.specs.Refusals.{badRecord, tooManyStates}
-use Rattle.tasks.specs.Sets.{goodName, within, cmax, unfit, blank, faultOf, taskAt, faultAt, statesOf, refuseOr, lowestFault, testStates, testSet}
+use Rattle.tasks.specs.Sets.{goodName, within, cmax, unfit, blank, faultOf, taskAt, faultAt, statesOf, refuseOr, lowestFault, testStates, testSet, Passed}
 use Rattle.tasks.proofs.SetLaws.{within-both, states-fit}
 
 -- a task's record: its kind, its deadline, its lists, and the rules between them
@@ -125,6 +125,12 @@ valid s m e =
       cc,
     )
 
+pub passed : (s : Set) (m : ℕ) → testSet s ≡ States m → Passed s
+passed s m e = e ∙ ap States (valid s m e .1)
+
+pub passed-valid : (s : Set) → Passed s → Valid s
+passed-valid s e = valid s (statesOf s) e .0
+
 none-faults : (s : Set) (k i : ℕ) (t : Tested) → ((j : ℕ) → i ≤ j → j < i + k → faultAt s j ≡ 0) → lowestFault s k i t ≡ t
 unfolding lowestFault
 none-faults s zero i t h = refl
@@ -133,7 +139,7 @@ none-faults s (suc k) i t h =
     ∙ none-faults s k (suc i) t (λ j p q. h j (omega arith) (omega arith))
 
 -- and a valid set passes
-pub passes : (s : Set) → Valid s → testSet s ≡ States (statesOf s)
+pub passes : (s : Set) → Valid s → Passed s
 unfolding testSet
 passes s v =
     simp (T-true (goodName (s .name)) (v .name), le-leb 1 (s .count) (v .count .0), le-leb (s .count) 7 (v .count .1))

@@ -1,6 +1,7 @@
 -- Task records, sets, and the test of a set.
 use mathlib.Core.Bool.{Bool, true, false, not, _&&_, _||_, cond}
 use mathlib.Core.List.{List, [], _∷_}
+use mathlib.Core.Path.{_≡_}
 use Prim.Native.Nat.{ℕ, zero, suc, _+_, _*_}
 use lib.Dec.{eqb, leb, ltb}
 use lib.ListN.{getD, drop}
@@ -103,6 +104,10 @@ unfoldable pub testSet : Set → Tested
 testSet s =
     refuseOr (cond (goodName (s .name) && within 1 7 (s .count)) 0 badRecord) 0
     (lowestFault s 7 0 (testStates s))
+
+-- the set passes the test
+abbrev pub Passed : Set → Type 0
+Passed s = testSet s ≡ States (statesOf s)
 
 -- the test's answer in the paper's terms
 abbrev pub saidTested : Tested → Said
