@@ -18,6 +18,10 @@ decide false = inr tt
 pub lt-or-le : (m n : ℕ) → (m < n) ⊎ (n ≤ m)
 lt-or-le m n = ⊎-elim (λ t. inl (ltb→lt m n t)) (λ t. inr (nltb→le m n t)) (decide (ltb m n))
 
+pub T-true : (b : Bool) → T b → b ≡ true
+T-true true t = refl
+T-true false t = absurd t
+
 pub not-not : (b : Bool) → T (not (not b)) → T b
 not-not true t = tt
 not-not false t = t

@@ -1,1 +1,4 @@
 pub mod StateLaws
+pub mod ListTests
+pub mod Sound
+pub mod WalkLaws

@@ -12,13 +12,13 @@ use borrow.Author.Tests.{lt-ltb, le-ltb}
 use Rattle.arena.proofs.Tests.{and-left, and-right, and-by, decide}
 use Rattle.tasks.specs.declared.sets.Task.{Task}
 use Rattle.tasks.specs.declared.sets.Set.{Set}
-use Rattle.tasks.specs.Sets.{cmax, amax, taskAt, localsOf, statesTo, statesOf}
+use Rattle.tasks.specs.Sets.{cmax, amax, taskAt, localsOf, statesTo, statesOf, Passed}
 use Rattle.tasks.proofs.ListLaws.{longest-pos}
-use Rattle.tasks.proofs.Valid.{ValidTask, Valid}
+use Rattle.tasks.proofs.Valid.{ValidTask, Valid, passed-valid}
 use Rattle.game.specs.declared.states.Job.{Job}
 use Rattle.game.specs.declared.states.Job.the-variants.{Empty, InHand}
 use Rattle.game.specs.declared.states.TaskState.{TaskState}
-use Rattle.game.specs.States.{slots, givenIn, localOf, jobOf, stateOf, givenFits, inRange, stateAt, indexTo, localAt, taskStateAt}
+use Rattle.game.specs.States.{slots, givenIn, localOf, jobOf, stateOf, givenFits, inRange, stateAt, indexTo, indexOf, localAt, taskStateAt}
 
 module _ (τ : Task) where
   slots-pos : 0 < slots τ
@@ -76,7 +76,7 @@ module _ (τ : Task) where
   locals-pos v = mul-pos (longest-pos (τ .gaps) (v .gaps)) slots-pos
 
 -- a digit below one that stands higher does not see it
-digit-skip : (l a q m p : ℕ) → 0 < p → (l * (q * (m * p)) + a) / p % m ≡ a / p % m
+pub digit-skip : (l a q m p : ℕ) → 0 < p → (l * (q * (m * p)) + a) / p % m ≡ a / p % m
 digit-skip l a q m p h =
     ap (λ (n : ℕ). (n + a) / p % m) (ap (λ (n : ℕ). l * n) (sym (mul-assoc q m p)) ∙ sym (mul-assoc l (q * m) p))
     ∙ ap (λ (n : ℕ). n % m) (mul-add-div-right h (l * (q * m)) a)
@@ -151,3 +151,13 @@ module _ (s : Set) where
       let τ = taskAt s k in
       ap₂ (λ (l n : ℕ). l * statesTo s k + n) (ap (localOf τ) (e k (omega arith)) ∙ local-state τ (localAt s i k)) (index-back v i xs k (omega arith) (λ j h. e j (omega arith)))
       ∙ sym (mod-mul i (locals-pos τ (v .tasks k b)) (states-pos v k (omega arith)))
+
+-- the two, of whole states
+pub state-index : (s : Set) → Passed s → (xs : List TaskState) → Ranged s xs (s .count)
+    → (j : ℕ) → j < s .count → taskStateAt s (indexOf s xs) j ≡ stateAt xs j
+state-index s p xs r j h =
+    ap (stateOf (taskAt s j)) (index-local s (passed-valid s p) xs (s .count) (omega arith) r j h) ∙ state-local (taskAt s j) (stateAt xs j) (r j h)
+
+pub index-state : (s : Set) → Passed s → (i : ℕ) → i < statesOf s → (xs : List TaskState)
+    → ((j : ℕ) → j < s .count → stateAt xs j ≡ taskStateAt s i j) → indexOf s xs ≡ i
+index-state s p i b xs e = index-back s (passed-valid s p) i xs (s .count) (omega arith) e ∙ mod-eq-of-lt b

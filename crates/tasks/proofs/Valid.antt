@@ -7,7 +7,7 @@ use native.Mathlib.Nat.{eq-or-lt-of-le}
 use native.Mathlib.Omega.{arith}
 use lib.Dec.{T, eqb, ltb, nltb→le}
 use borrow.Author.Tests.{lt-ltb, le-ltb, le-leb, ne-eqb}
-use Rattle.arena.proofs.Tests.{and-left, and-right, not-not, lt-or-le}
+use Rattle.arena.proofs.Tests.{and-left, and-right, not-not, lt-or-le, T-true}
 use Rattle.tasks.specs.declared.sets.Task.{Task}
 use Rattle.tasks.specs.declared.sets.Set.{Set}
 use Rattle.tasks.specs.declared.sets.Tested.{Tested}
@@ -145,10 +145,6 @@ passes s v =
     simp (T-true (goodName (s .name)) (v .name), le-leb 1 (s .count) (v .count .0), le-leb (s .count) 7 (v .count .1))
     (none-faults s 7 0 (testStates s) (λ j _ h. ⊎-elim (task j) (beyond j h) (lt-or-le j (s .count))) ∙ states-fit s (v .states))
   where
-    T-true : (b : Bool) → T b → b ≡ true
-    T-true true t = refl
-    T-true false t = absurd t
-
     task : (j : ℕ) → j < s .count → faultAt s j ≡ 0
     task j h = fault-task s j h ∙ valid-task (taskAt s j) (v .tasks j h)
 
