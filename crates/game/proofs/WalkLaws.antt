@@ -1,28 +1,31 @@
 -- The walk over the tasks left tests the listed outcomes. Assumes nothing.
-use mathlib.Core.Path.{_≡_, refl, sym, ap, fun-ext, _∙_}
+use mathlib.Core.Path.{_≡_, refl, sym, ap, subst, fun-ext, _∙_}
 use mathlib.Core.Bool.{Bool, true, false, not, _&&_}
 use mathlib.Core.List.{List, [], _∷_, _++_, map}
 use Prim.Native.Nat.{ℕ, zero, suc, _+_, _*_, _≤_, _<_}
 use native.Mathlib.Nat.{add-mul, mul-assoc, add-assoc, zero-mul, zero-add, mul-one, add-zero}
 use native.Mathlib.Omega.{arith}
-use lib.Dec.{T, eqb}
+use lib.Dec.{T, eqb, ltb, ltb→lt, lt→ltb}
 use lib.ListN.{getD}
-use Rattle.arena.specs.Tests.{all}
+use Rattle.arena.specs.Tests.{all, imp}
 use Rattle.arena.specs.Arena.{Next, miss, go, Outcome, out, fine}
 use Rattle.arena.specs.Arena as Arena
-use Rattle.arena.proofs.Tests.{T-true}
+use Rattle.arena.proofs.Tests.{T-true, and-left, and-right, and-by, imp-at, imp-by, all-at, all-by}
 use Rattle.tasks.specs.declared.sets.Task.{Task}
 use Rattle.tasks.specs.declared.sets.Set.{Set}
 use Rattle.tasks.specs.Sets.{taskAt, localsOf, statesTo, statesOf, Passed}
-use Rattle.tasks.proofs.Valid.{Valid, passed-valid}
+use Rattle.tasks.proofs.Valid.{ValidTask, Valid, passed-valid}
+use Rattle.game.specs.declared.states.TaskState.{TaskState}
+use Rattle.game.specs.declared.ticks.Moves.{Moves}
 use Rattle.game.specs.declared.ticks.Ticked.{Ticked}
 use Rattle.game.specs.declared.ticks.Ticked.the-variants as Ticked
 use Rattle.game.specs.States.{localOf, stateOf, localAt, taskStateAt}
 use Rattle.game.specs.Ticks.{tickOf}
 use Rattle.game.specs.Game.{Seen, movesOf, gather, beside, outcomesTo, legalAt, arenaOf}
-use Rattle.game.specs.Walk.{lands, everyTick, walk}
+use Rattle.game.specs.Walk.{lands, everyTick, every, walk}
+use Rattle.game.proofs.StateLaws.{local-lt}
 use Rattle.game.proofs.ListTests.{Some, all-cong, all-none, all-gather, all-map}
-use Rattle.game.proofs.Sound.{Runs, outcomes-some, legal-runs}
+use Rattle.game.proofs.Sound.{Runs, ranged, tick-range, outcomes-some, legal-runs}
 
 and-true : (b : Bool) → (b && true) ≡ b
 and-true true = refl
@@ -70,3 +73,34 @@ walk-fine s p X j c d e t =
     ap (λ b. b && all (λ o. Arena.lands X (o .next)) (outcomesTo s j c (s .count))) (T-true (legalAt s j c) t)
     ∙ all-cong _ _ (λ o. ap (λ (Y : ℕ → Bool). Arena.lands Y (o .next)) (fun-ext (λ t. ap X (sym (ap (λ (x : ℕ). x + t) (zero-mul (statesOf s)) ∙ zero-add t))))) (outcomesTo s j c (s .count))
     ∙ sym (walk-outcomes s v j c d X (s .count) 0 (omega arith) (legal-runs s v j c t (s .count)) e)
+
+-- where a task's moves bring no miss, the local numbers that they lead to are the task's
+pub moves-bound : (τ : Task) → ValidTask τ → (run : Bool) (x : TaskState) (m : Moves) → ((p : ℕ → Bool) → every m p ≡ everyTick τ run x p) → m .misses ≡ false
+    → (m .ends ≡ true → m .ended < localsOf τ) × (m .stays ≡ true → m .stayed < localsOf τ)
+unfolding everyTick
+moves-bound τ v run x m e f = (
+  λ t. ltb→lt (m .ended) (localsOf τ) (imp-at (m .ends) _ (and-left (imp (m .ends) (within (m .ended))) _ rest) (subst T (sym t) tt)),
+  λ t. ltb→lt (m .stayed) (localsOf τ) (imp-at (m .stays) _ (and-right (imp (m .ends) (within (m .ended))) _ rest) (subst T (sym t) tt)),
+)
+  where
+    within : ℕ → Bool
+    within l = ltb l (localsOf τ)
+
+    anywhere : T (every m (λ _. true))
+    anywhere = subst (λ (b : Bool). T (not b && (imp (m .comes) true && (imp (m .ends) true && imp (m .stays) true)))) (sym f)
+        (and-by (imp (m .comes) true) _ (imp-by (m .comes) true (λ _. tt)) (and-by (imp (m .ends) true) _ (imp-by (m .ends) true (λ _. tt)) (imp-by (m .stays) true (λ _. tt))))
+
+    land : (t : Ticked) → T (ranged τ t) → T (lands τ (λ _. true) t) → T (lands τ within t)
+    land Ticked.Impossible r l = l
+    land Ticked.Missed r l = l
+    land (Ticked.Next y) r l = lt→ltb (localOf τ y) (localsOf τ) (local-lt τ y r)
+
+    bounded : T (every m within)
+    bounded =
+        let all-land = subst T (e (λ _. true)) anywhere in
+        subst T (sym (e within))
+        (all-by (λ f. lands τ within (tickOf τ run x f)) (movesOf τ run x)
+        (λ f n. land (tickOf τ run x f) (tick-range τ v run x f) (all-at (λ f. lands τ (λ _. true) (tickOf τ run x f)) (movesOf τ run x) all-land n)))
+
+    rest : T (imp (m .ends) (within (m .ended)) && imp (m .stays) (within (m .stayed)))
+    rest = and-right (imp (m .comes) (within 0)) _ (and-right (not (m .misses)) _ bounded)

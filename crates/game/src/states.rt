@@ -4,7 +4,7 @@ use tasks::sets;
 use tasks::sets::Set;
 use tasks::sets::Task;
 ghost use mathlib.Core.Path.{_≡_};
-ghost use Prim.Native.Nat.{ℕ, _<_};
+ghost use Prim.Native.Nat.{ℕ, _≤_, _<_};
 ghost use lib.ListN.{getD};
 ghost use Rattle.tasks.specs.Sets.{localsOf, Passed};
 ghost use Rattle.game.specs.States.{givenIn, localOf, stateOf, inRange, indexOf, localAt};
@@ -24,6 +24,7 @@ pub struct TaskState {
 // The ticks given to a job, cmax where there is none.
 fn given(t: Task, job: Job) -> u32
     ensures { λ r. ⌜ r ≡ givenIn t job ⌝ }
+    ensures small { λ r. ⌜ r ≤ 255 ⌝ }
 {
     match job {
         Job::Empty => lists::longest(t.runs),
@@ -34,6 +35,7 @@ fn given(t: Task, job: Job) -> u32
 // A task state's local number.
 pub fn local_number(t: Task, x: TaskState) -> u32
     ensures { λ r. ⌜ r ≡ localOf t x ⌝ }
+    ensures small { λ r. ⌜ r ≤ 4590 ⌝ }
 {
     let job = x.job;
     (x.age as u32) * (lists::longest(t.runs) + 1) + given(t, job)
