@@ -22,6 +22,10 @@ pub T-true : (b : Bool) → T b → b ≡ true
 T-true true t = refl
 T-true false t = absurd t
 
+pub T-false : (b : Bool) → T (not b) → b ≡ false
+T-false true t = absurd t
+T-false false t = refl
+
 pub not-not : (b : Bool) → T (not (not b)) → T b
 not-not true t = tt
 not-not false t = t

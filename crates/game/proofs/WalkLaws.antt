@@ -74,6 +74,11 @@ walk-fine s p X j c d e t =
     ∙ all-cong _ _ (λ o. ap (λ (Y : ℕ → Bool). Arena.lands Y (o .next)) (fun-ext (λ t. ap X (sym (ap (λ (x : ℕ). x + t) (zero-mul (statesOf s)) ∙ zero-add t))))) (outcomesTo s j c (s .count))
     ∙ sym (walk-outcomes s v j c d X (s .count) 0 (omega arith) (legal-runs s v j c t (s .count)) e)
 
+-- and is not where it is not legal
+pub not-fine : (s : Set) (X : ℕ → Bool) (i c : ℕ) → legalAt s i c ≡ false → fine (arenaOf s) X i c ≡ false
+unfolding arenaOf
+not-fine s X i c e = ap (λ b. b && all (λ o. Arena.lands X (o .next)) (outcomesTo s i c (s .count))) e
+
 -- where a task's moves bring no miss, the local numbers that they lead to are the task's
 pub moves-bound : (τ : Task) → ValidTask τ → (run : Bool) (x : TaskState) (m : Moves) → ((p : ℕ → Bool) → every m p ≡ everyTick τ run x p) → m .misses ≡ false
     → (m .ends ≡ true → m .ended < localsOf τ) × (m .stays ≡ true → m .stayed < localsOf τ)

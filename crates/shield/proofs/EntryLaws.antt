@@ -11,7 +11,7 @@ use lib.Arith.{digits-div, mod-mul}
 use lib.Dec.{T, eqb, eqb→eq, eqb-refl, not-T, T-not}
 use lib.ListN.{length, getD, take, drop, set, replicate, length-append, replicate-append-replicate}
 use lib.Pow.{pow-pos, pow-add}
-use lib.Seq.{drop-cons, set-at, getD-at}
+use lib.Seq.{drop-cons, set-at, getD-at, take-suc, length-take-le}
 use borrow.Author.Tests.{ne-eqb}
 use Rattle.arena.specs.Tests.{anyBelow, one}
 use Rattle.arena.proofs.Tests.{T-ext, anyBelow-at, anyBelow-by, or-cases}
@@ -113,13 +113,20 @@ list-cong f g zero h = refl
 list-cong f g (suc n) h = ap₂ (λ (l : List ℕ) (x : ℕ). l ++ (x ∷ [])) (list-cong f g n (λ i p. h i (omega arith))) (h n (omega arith))
 
 -- a store at the seam of what is done and what is left
+seam : (p w : List ℕ) (i e : ℕ) → length p ≡ i → i < length w → set (p ++ drop i w) i e ≡ (p ++ (e ∷ [])) ++ drop (i + 1) w
+seam p w i e hp h =
+    ap (λ (l : List ℕ). set (p ++ l) i e) (drop-cons w i 0 h) ∙ set-at p (getD w i 0) (drop (suc i) w) e i hp
+    ∙ sym (append-assoc p (e ∷ []) (drop (suc i) w)) ∙ ap (λ (n : ℕ). (p ++ (e ∷ [])) ++ drop n w) (sym (add-one i))
+
+-- a list of values grows by one, and so does a copy
 pub list-step : (f : ℕ → ℕ) (w : List ℕ) (i : ℕ) → i < length w → set (listTo f i ++ drop i w) i (f i) ≡ listTo f (i + 1) ++ drop (i + 1) w
 unfolding listTo
-list-step f w i h =
-    ap (λ (l : List ℕ). set (listTo f i ++ l) i (f i)) (drop-cons w i 0 h)
-    ∙ set-at (listTo f i) (getD w i 0) (drop (suc i) w) (f i) i (list-length f i)
-    ∙ sym (append-assoc (listTo f i) (f i ∷ []) (drop (suc i) w))
-    ∙ ap (λ (n : ℕ). listTo f n ++ drop n w) (sym (add-one i))
+list-step f w i h = seam (listTo f i) w i (f i) (list-length f i) h ∙ ap (λ (n : ℕ). listTo f n ++ drop (i + 1) w) (sym (add-one i))
+
+pub copy-step : (w d : List ℕ) (i : ℕ) → i < length w → i < length d → set (take i w ++ drop i d) i (getD w i 0) ≡ take (i + 1) w ++ drop (i + 1) d
+copy-step w d i p q =
+    let k : i ≤ length w = omega arith in
+    seam (take i w) d i (getD w i 0) (length-take-le i w k) q ∙ ap (λ (l : List ℕ). l ++ drop (i + 1) d) (sym (ap (λ (n : ℕ). take n w) (add-one i) ∙ take-suc w i 0 p))
 
 -- one value everywhere
 pub list-same : (v n : ℕ) → listTo (λ i. v) n ≡ replicate n v

@@ -1,3 +1,6 @@
 pub mod EntryLaws
 pub mod RoundLaws
 pub mod WalkTurn
+pub mod FineLaws
+pub mod TestLaws
+pub mod BuildLaws

@@ -17,8 +17,13 @@ use Rattle.shield.specs.declared.builder.Built.{Built}
 use Rattle.shield.specs.declared.builder.Built.the-variants.{Done, Refused}
 use Rattle.shield.specs.declared.builder.Settled.{Settled}
 use Rattle.shield.specs.declared.builder.Settled.the-variants.{Safe, Falls}
-use Rattle.shield.specs.Entries.{entryOf}
+use Rattle.shield.specs.Entries.{entryOf, listTo}
 use Rattle.shield.specs.Shield.{tableAfter, shieldTable}
+
+-- the first n bytes of table and work are the values of f, those beyond stay
+pub record Rounds (f : ℕ → ℕ) (n : ℕ) (t w t′ w′ : List ℕ) : Type 0 where
+  pub table : t′ ≡ listTo f n ++ drop n t
+  pub work : w′ ≡ listTo f n ++ drop n w
 
 -- what the rounds come to: the number of safe states and R where the start is safe, and else the round in which it falls
 abbrev pub settledIf : Set → Bool → Settled
@@ -45,8 +50,11 @@ buildIf s true = Done (safeCount (arenaOf s)) (R (arenaOf s)) (entryOf (shield (
 buildIf s false = Refused (record { number = noSafeSchedule; place = falls (arenaOf s) 0 })
 
 -- a buffer of n bytes is too short for S
+abbrev pub tooShort : ℕ → Built
+tooShort S = Refused (record { number = bufferTooShort; place = S })
+
 abbrev pub shortOr : ℕ → ℕ → Built → Built
-shortOr n S b = cond (ltb n S) (Refused (record { number = bufferTooShort; place = S })) b
+shortOr n S b = cond (ltb n S) (tooShort S) b
 
 -- the set's own refusal, then the table's length, then the work buffer's
 abbrev pub buildTested : Set → ℕ → ℕ → Tested → Built

@@ -13,7 +13,7 @@ ghost use Rattle.arena.specs.Tests.{count};
 ghost use Rattle.tasks.specs.Sets.{statesOf, Passed};
 ghost use Rattle.shield.specs.Entries.{live, listTo};
 ghost use Rattle.shield.specs.Shield.{nextEntry};
-ghost use Rattle.shield.specs.Build.{Settles, Builds, buildTested, tableBuilt, workBuilt};
+ghost use Rattle.shield.specs.Build.{Rounds, Settles, tooShort, Builds};
 
 // What the builder answers: the number of safe states, the rounds number and the start's entry, or the refusal.
 pub enum Built {
@@ -55,8 +55,8 @@ fn count_live(table: &[u8], n: usize) -> u32
     found
 }
 
-// One round: what is left of each entry goes to work, so that the table stands while the round is going on.
-fn round(s: Set, table: &[u8], work: &mut [u8], n: usize)
+// What is left of each entry goes to work, so that the table stands while a round is going on.
+fn next_entries(s: Set, table: &[u8], work: &mut [u8], n: usize)
     requires { ⌜ Passed s × (n ≡ statesOf s) × (n ≤ length (now table)) × (n ≤ length (now work)) ⌝ }
     ensures { λ _. ⌜ now (work .exit) ≡ listTo (nextEntry s (now (table .entry))) n ++ drop n (now (work .entry)) ⌝ }
 {
@@ -79,6 +79,15 @@ fn settle(table: &mut [u8], work: &[u8], n: usize)
     }
 }
 
+// One round: what falls in it is removed at its end, at once.
+fn round(s: Set, table: &mut [u8], work: &mut [u8], n: usize)
+    requires { ⌜ Passed s × (n ≡ statesOf s) × (n ≤ length (now table)) × (n ≤ length (now work)) ⌝ }
+    ensures { λ _. ⌜ Rounds (nextEntry s (now (table .entry))) n (now (table .entry)) (now (work .entry)) (now (table .exit)) (now (work .exit)) ⌝ }
+{
+    next_entries(s, table, work, n);
+    settle(table, work, n);
+}
+
 // Rounds from the table of all choices, until the start falls or a round leaves as many states as the one before.
 fn run_rounds(s: Set, table: &mut [u8], work: &mut [u8], n: usize) -> Settled
     requires { ⌜ Passed s × (n ≡ statesOf s) × (n ≤ length (now table)) × (n ≤ length (now work)) ⌝ }
@@ -89,7 +98,6 @@ fn run_rounds(s: Set, table: &mut [u8], work: &mut [u8], n: usize) -> Settled
     let mut rounds: u32 = 0;
     loop {
         round(s, table, work, n);
-        settle(table, work, n);
         if table[0] == 0 {
             return Settled::Falls(rounds + 1);
         }
@@ -136,7 +144,9 @@ fn build_passed(s: Set, table: &mut [u8], work: &mut [u8], n: u32) -> Built
 }
 
 // A buffer shorter than n bytes.
-fn short(n: u32) -> Built {
+fn short(n: u32) -> Built
+    ensures { λ r. ⌜ r ≡ tooShort n ⌝ }
+{
     Built::Refused(Refusal {
         number: refusals::BUFFER_TOO_SHORT,
         place: n,

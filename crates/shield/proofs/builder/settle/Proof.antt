@@ -1,45 +1,50 @@
+-- The entries before i are work's.
+use borrow.Author.Needs.{needs}
+use mathlib.Core.Path.{_≡_, ap, _∙_}
+use mathlib.Core.List.{_++_}
+use Prim.Native.Nat.{_-_, _≤_, _<_}
+use native.Mathlib.Omega.{arith}
+use lib.ListN.{length, take, drop, set, getD, length-set}
+use Rattle.shield.proofs.EntryLaws.{copy-step}
 use Rattle.shield.proofs.builder.settle.Statement.{statement}
 use Rattle.shield.proofs.builder.settle.Tie as tie
-use Rattle.shield.proofs.builder.settle.Reads as reads
-use Rattle.shield.proofs.builder.settle.Lts as lts
 
 abbrev Inv-loop : tie.InvT-loop
-Inv-loop table₀ work n i₀ table i = ?
+Inv-loop table₀ work n i₀ table i = (i ≤ n) × (length table ≡ length table₀) × (table ≡ take i work ++ drop i table₀)
 
 abbrev μ-loop : tie.MeasureT-loop
-μ-loop table₀ work n i₀ table i = ?
+μ-loop table₀ work n i₀ table i = n - i
 
--- src/builder.rt:76:5
 loop-holds : tie.Need-loop-holds Inv-loop μ-loop
-loop-holds c = ?
+loop-holds c = search needs
 
--- src/builder.rt:77:20
 shared-slice-read-table : tie.Need-shared-slice-read-table Inv-loop μ-loop
-shared-slice-read-table c = ?
+shared-slice-read-table c = search needs
 
--- src/builder.rt:77:9
 slice-write-table : tie.Need-slice-write-table Inv-loop μ-loop
-slice-write-table c = ?
+slice-write-table c = search needs
 
--- src/builder.rt:78:9
 add-i : tie.Need-add-i Inv-loop μ-loop
-add-i c = ?
+add-i c = search needs
 
--- src/builder.rt:76:5
 loop-less : tie.Need-loop-less Inv-loop μ-loop
-loop-less c = ?
+loop-less c = search needs
 
--- src/builder.rt:76:5
 loop-again : tie.Need-loop-again Inv-loop μ-loop
-loop-again c = ?
+loop-again c = let l = c .before .before .loop in
+    let a = c .before .before .before .args in
+    let p : l .i < length (a .work .now) = omega arith in
+    let q : l .i < length (a .table .now) = omega arith in
+    (omega arith, simp length-set (l .inv .1), ap (λ x. set x (l .i) (getD (a .work .now) (l .i) 0)) (l .inv .2) ∙ copy-step (a .work .now) (a .table .now) (l .i) p q)
 
--- src/builder.rt:71:1
 same-length : tie.Need-same-length Inv-loop μ-loop
-same-length c = ?
+same-length c = c .before .loop .inv .1
 
--- src/builder.rt:71:1
 returns : tie.Need-returns Inv-loop μ-loop
-returns c = ?
+returns c = let l = c .before .loop in
+    let a = c .before .before .args in
+    let e : l .i ≡ a .n = omega arith in
+    l .inv .2 ∙ ap (λ n. take n (a .work .now) ++ drop n (a .table .now)) e
 
 pub settle-spec : {M : Type 1} → statement M
 settle-spec =

@@ -1,58 +1,54 @@
+-- Idle, or a task within the count that is runnable.
+use mathlib.Core.Path.{sym, ap, _∙_}
+use Prim.Native.Nat.{_-_}
+use native.Mathlib.Omega.{arith}
+use Rattle.tasks.specs.Sets.{taskAt}
+use Rattle.game.specs.Ticks.{runnable}
+use Rattle.tasks.proofs.Valid.{passed-valid}
+use Rattle.shield.specs.Shield.{legalIn}
+use Rattle.shield.proofs.FineLaws.{legal-none, legal-task}
 use borrow.Author.Needs.{needs}
 use Rattle.shield.proofs.walks.is_legal.Statement.{statement}
 use Rattle.shield.proofs.walks.is_legal.Tie as tie
-use Rattle.shield.proofs.walks.is_legal.Reads as reads
-use Rattle.shield.proofs.walks.is_legal.Lts as lts
-use Rattle.game.proofs.states.state_of.Reads as state-of-reads
-use Rattle.game.proofs.ticks.is_runnable.Reads as is-runnable-reads
 
--- src/walks.rt:58:9
 returns : tie.Need-returns
-returns c = ?
+unfolding legalIn
+returns c = sym (ap (legalIn _ _) (c .if1 .taken))
 
--- src/walks.rt:60:9
 cast-if2 : tie.Need-cast-if2
 cast-if2 c = search needs
 
--- src/walks.rt:61:9
 returns-2 : tie.Need-returns-2
-returns-2 c = ?
+returns-2 c = sym (legal-none _ _ _ (c .if2 .taken))
 
--- src/walks.rt:63:21
 sub-t : tie.Need-sub-t
 sub-t c = search needs
 
--- src/walks.rt:63:13
 mul-t : tie.Need-mul-t
 mul-t c = search needs
 
--- src/walks.rt:63:13
 element-copy-out-t : tie.Need-element-copy-out-t
-element-copy-out-t c = ?
+element-copy-out-t c = omega (arith, passed-valid (c .before .before .args .t1) (c .before .before .pre .0) .count .1)
 
--- src/walks.rt:64:35
 sub-state-of : tie.Need-sub-state-of
 sub-state-of c = search needs
 
--- src/walks.rt:64:33
 mul-state-of : tie.Need-mul-state-of
 mul-state-of c = search needs
 
--- src/walks.rt:64:33
 element-copy-out-state-of : tie.Need-element-copy-out-state-of
-element-copy-out-state-of c = ?
+element-copy-out-state-of c = omega (arith, passed-valid (c .before .before .before .args .t1) (c .before .before .before .pre .0) .count .1)
 
--- src/walks.rt:64:9
 state-of-requires : tie.Need-state-of-requires
-state-of-requires c κs = ?
+state-of-requires c κs = let q = c .before .before .before .if1 .left in
+    c .before .before .before .before .pre .1 (c .before .before .before .before .args .choice - 1) (omega arith)
 
--- src/walks.rt:65:5
 is-runnable-requires : tie.Need-is-runnable-requires
 is-runnable-requires c κs = search needs
 
--- src/walks.rt:52:1
 returns-3 : tie.Need-returns-3
-returns-3 c = ?
+returns-3 c = let a = c .before .before .before .before .before .before .args in
+    c .is-runnable .ensures ∙ ap (runnable (taskAt (a .t1) (a .choice - 1))) (c .before .state-of .ensures) ∙ sym (legal-task (a .t1) (a .d .now) (a .choice) (c .before .before .before .before .before .if1 .left) (c .before .before .before .before .if2 .left))
 
 pub is-legal-spec : {M : Type 1} → statement M
 is-legal-spec =
