@@ -1,19 +1,24 @@
 -- Local numbers and indices: in range, and there and back. Assumes nothing.
 use mathlib.Core.Path.{_≡_, refl, sym, ap, ap₂, subst, _∙_}
 use mathlib.Core.Logic.{⊎-elim}
-use mathlib.Core.Bool.{Bool, true, false, not, _&&_, cond}
+use mathlib.Core.Bool.{Bool, true, false, not, cond}
 use mathlib.Core.List.{List}
-use Prim.Native.Nat.{ℕ, zero, suc, _+_, _-_, _*_, _/_, _%_, _≤_, _<_}
-use native.Mathlib.Nat.{div-lt-iff-lt-mul, div-add-mod', mod-lt, mod-eq-of-lt, mul-pos, mul-assoc, div-one, mod-one, div-div-eq-div-mul, eq-or-lt-of-le, le-of-suc-le-suc, mul-add-div-right, mul-add-mod-self-right, one-mul}
+use Prim.Native.Nat.{ℕ, zero, suc, _+_, _*_, _/_, _%_, _^_, _≤_, _<_}
+use native.Mathlib.Nat.{div-lt-iff-lt-mul, div-add-mod', mod-lt, mod-eq-of-lt, mul-pos, mul-assoc, mul-comm, mul-le-mul, pow-succ', le-refl, mod-one, div-div-eq-div-mul, eq-or-lt-of-le, le-of-suc-le-suc, mul-add-div-right, mul-add-mod-self-right, one-mul}
+use native.Mathlib.Numerals.{add-one}
 use native.Mathlib.Omega.{arith}
 use lib.Arith.{digits-lt, digits-div, digits-mod, mod-mul}
 use lib.Dec.{T, ltb, ltb→lt, lt→ltb, nltb→le}
+use lib.ListN.{length, getD, set}
+use lib.Seq.{getD-set-same, getD-set-other}
+use borrow.Author.Count.{below-more}
 use borrow.Author.Tests.{lt-ltb, le-ltb}
 use Rattle.arena.proofs.Tests.{and-left, and-right, and-by, decide}
 use Rattle.tasks.specs.declared.sets.Task.{Task}
 use Rattle.tasks.specs.declared.sets.Set.{Set}
-use Rattle.tasks.specs.Sets.{cmax, amax, taskAt, localsOf, statesTo, statesOf}
-use Rattle.tasks.proofs.ListLaws.{longest-pos}
+use Rattle.tasks.specs.Sets.{cmax, amax, taskAt, localsOf, statesTo}
+use Rattle.tasks.proofs.ListLaws.{longest-le, longest-pos}
+use Rattle.tasks.proofs.SetLaws.{states-step, bound-top}
 use Rattle.tasks.proofs.Valid.{ValidTask, Valid}
 use Rattle.game.specs.declared.states.Job.{Job}
 use Rattle.game.specs.declared.states.Job.the-variants.{Empty, InHand}
@@ -21,7 +26,7 @@ use Rattle.game.specs.declared.states.TaskState.{TaskState}
 use Rattle.game.specs.States.{slots, givenIn, localOf, jobOf, stateOf, givenFits, inRange, stateAt, indexTo, localAt, taskStateAt}
 
 module _ (τ : Task) where
-  slots-pos : 0 < slots τ
+  pub slots-pos : 0 < slots τ
   slots-pos = omega arith
 
   given-lt : (job : Job) → T (givenFits τ job) → givenIn τ job < slots τ
@@ -29,7 +34,7 @@ module _ (τ : Task) where
   given-lt (InHand g) t = omega (arith, ltb→lt g (cmax τ) t)
 
   -- a job's ticks given, and back
-  given-job : (g : ℕ) → g < slots τ → givenIn τ (jobOf τ g) ≡ g
+  pub given-job : (g : ℕ) → g < slots τ → givenIn τ (jobOf τ g) ≡ g
   given-job g h = ⊎-elim (λ t. ap (givenIn τ) (job-at t)) (λ t. ap (givenIn τ) (none-at t) ∙ omega (arith, nltb→le g (cmax τ) t)) (decide (ltb g (cmax τ)))
     where
       job-at : T (ltb g (cmax τ)) → jobOf τ g ≡ InHand g
@@ -55,10 +60,15 @@ module _ (τ : Task) where
   local-lt x t =
       digits-lt (ltb→lt (x .age) (amax τ) (and-left (ltb (x .age) (amax τ)) _ t)) (given-lt (x .job) (and-right (ltb (x .age) (amax τ)) _ t))
 
+  -- the age at a local number
+  pub age-lt : (l : ℕ) → l < localsOf τ → l / slots τ < amax τ
+  unfolding localsOf
+  age-lt l h = div-lt-iff-lt-mul slots-pos .1 h
+
   pub state-range : (l : ℕ) → l < localsOf τ → T (inRange τ (stateOf τ l))
-  unfolding inRange stateOf localsOf
+  unfolding inRange stateOf
   state-range l h =
-      and-by (ltb (l / slots τ) (amax τ)) _ (lt→ltb (l / slots τ) (amax τ) (div-lt-iff-lt-mul slots-pos .1 h)) (job-fits (l % slots τ))
+      and-by (ltb (l / slots τ) (amax τ)) _ (lt→ltb (l / slots τ) (amax τ) (age-lt l h)) (job-fits (l % slots τ))
 
   pub local-state : (l : ℕ) → localOf τ (stateOf τ l) ≡ l
   unfolding localOf stateOf
@@ -71,9 +81,31 @@ module _ (τ : Task) where
       let g = given-lt (x .job) f in
       ap₂ (λ (a : ℕ) (j : Job). record { age = a; job = j }) (digits-div (x .age) g) (ap (jobOf τ) (digits-mod (x .age) g) ∙ job-given (x .job) f)
 
+  pub locals-le : localsOf τ ≤ 272
+  unfolding localsOf
+  locals-le =
+      let h : cmax τ + 1 ≤ 17 = omega (arith, longest-le (τ .runs)) in
+      mul-le-mul (longest-le (τ .gaps)) h
+
   pub locals-pos : ValidTask τ → 0 < localsOf τ
   unfolding localsOf
   locals-pos v = mul-pos (longest-pos (τ .gaps) (v .gaps)) slots-pos
+
+-- a byte of age and a byte of ticks given
+pub local-small : (a m g : ℕ) → a < 256 → m ≤ 16 → g ≤ 255 → a * (m + 1) + g ≤ 4590
+local-small a m g p q r =
+    let h : a ≤ 255 = omega arith in
+    let l : m + 1 ≤ 17 = omega arith in
+    omega (arith, mul-le-mul h l)
+
+-- an index grows with one task more, and that of seven fits 64 bits
+pub index-bound : (k at w l : ℕ) → at ≤ 17 * 272 ^ k → w ≤ 272 ^ k → l ≤ 4590 → l * w + at ≤ 17 * 272 ^ (k + 1)
+index-bound k at w l p q r =
+    let e : 272 ^ (k + 1) ≡ 272 * 272 ^ k = ap (λ (n : ℕ). 272 ^ n) (add-one k) ∙ pow-succ' 272 k in
+    omega (arith, mul-le-mul r q)
+
+pub index-top : (k at w l : ℕ) → k < 7 → at ≤ 17 * 272 ^ k → w ≤ 272 ^ k → l ≤ 4590 → l * w + at < 2 ^ 64
+index-top k at w l h p q r = omega (arith, index-bound k at w l p q r, bound-top (k + 1) (272 ^ (k + 1)) (le-refl _) (omega arith))
 
 -- a digit below one that stands higher does not see it
 digit-skip : (l a q m p : ℕ) → 0 < p → (l * (q * (m * p)) + a) / p % m ≡ a / p % m
@@ -151,3 +183,23 @@ module _ (s : Set) where
       let τ = taskAt s k in
       ap₂ (λ (l n : ℕ). l * statesTo s k + n) (ap (localOf τ) (e k (omega arith)) ∙ local-state τ (localAt s i k)) (index-back v i xs k (omega arith) (λ j h. e j (omega arith)))
       ∙ sym (mod-mul i (locals-pos τ (v .tasks k b)) (states-pos v k (omega arith)))
+
+  -- one task more of a whole state, and one less of an index
+  pub index-step : (xs : List TaskState) (k at w l : ℕ) → at ≡ indexTo s xs k → w ≡ statesTo s k → l ≡ localOf (taskAt s k) (stateAt xs k)
+      → l * w + at ≡ indexTo s xs (k + 1)
+  unfolding indexTo
+  index-step xs k at w l p q r = simp (p, q, r) (ap (indexTo s xs) (sym (add-one k)))
+
+  module _ (i k n rest : ℕ) (e : rest ≡ i / statesTo s k) (m : n ≡ localsOf (taskAt s k)) where
+    pub rest-step : rest / n ≡ i / statesTo s (k + 1)
+    rest-step =
+        ap₂ (λ (a b : ℕ). a / b) e m ∙ div-div-eq-div-mul i (statesTo s k) (localsOf (taskAt s k))
+        ∙ ap (λ (a : ℕ). i / a) (mul-comm (statesTo s k) (localsOf (taskAt s k)) ∙ states-step s k (statesTo s k) (localsOf (taskAt s k)) refl refl)
+
+    pub locals-step : (d : List ℕ) → k < length d → ((j : ℕ) → j < k → getD d j 0 ≡ localAt s i j)
+        → (j : ℕ) → j < k + 1 → getD (set d k (rest % n)) j 0 ≡ localAt s i j
+    unfolding localAt
+    locals-step d h all =
+        below-more (λ j. getD (set d k (rest % n)) j 0 ≡ localAt s i j) k
+        (λ j l. getD-set-other d k j (rest % n) 0 (λ q. omega arith) ∙ all j l)
+        (getD-set-same d k (rest % n) 0 h ∙ ap₂ (λ (a b : ℕ). a % b) e m)

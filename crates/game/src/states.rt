@@ -4,7 +4,7 @@ use tasks::sets;
 use tasks::sets::Set;
 use tasks::sets::Task;
 ghost use mathlib.Core.Path.{_≡_};
-ghost use Prim.Native.Nat.{ℕ, _<_};
+ghost use Prim.Native.Nat.{ℕ, _≤_, _<_};
 ghost use lib.ListN.{getD};
 ghost use Rattle.tasks.specs.Sets.{localsOf, Passed};
 ghost use Rattle.game.specs.States.{givenIn, localOf, stateOf, inRange, indexOf, localAt};
@@ -24,6 +24,7 @@ pub struct TaskState {
 // The ticks given to a job, cmax where there is none.
 fn given(t: Task, job: Job) -> u32
     ensures { λ r. ⌜ r ≡ givenIn t job ⌝ }
+    ensures small { λ r. ⌜ r ≤ 255 ⌝ }
 {
     match job {
         Job::Empty => lists::longest(t.runs),
@@ -31,9 +32,10 @@ fn given(t: Task, job: Job) -> u32
     }
 }
 
-// A task state's local number.
+// A task state's local number: small for any two bytes, so that no index wraps.
 pub fn local_number(t: Task, x: TaskState) -> u32
     ensures { λ r. ⌜ r ≡ localOf t x ⌝ }
+    ensures small { λ r. ⌜ r ≤ 4590 ⌝ }
 {
     let job = x.job;
     (x.age as u32) * (lists::longest(t.runs) + 1) + given(t, job)
@@ -84,8 +86,10 @@ pub fn index_of(s: Set, xs: [TaskState; 7]) -> usize
     while k < s.count as usize {
         let t = s.tasks[k];
         let x = xs[k];
-        at = (local_number(t, x) as usize) * weight + at;
-        weight = (sets::locals(t) as usize) * weight;
+        let local = local_number(t, x) as usize;
+        let n = sets::locals(t) as usize;
+        at = local * weight + at;
+        weight = n * weight;
         k += 1;
     }
     at
