@@ -1,5 +1,5 @@
-pub mod StateLaws
 pub mod ListTests
 pub mod Sound
-pub mod WalkLaws
+pub mod StateLaws
 pub mod TickLaws
+pub mod WalkLaws

@@ -98,7 +98,7 @@ local-small a m g p q r =
     let l : m + 1 ≤ 17 = omega arith in
     omega (arith, mul-le-mul h l)
 
--- the index of at most 7 states fits 64 bits
+-- an index grows with one task more, and that of seven fits 64 bits
 pub index-bound : (k at w l : ℕ) → at ≤ 17 * 272 ^ k → w ≤ 272 ^ k → l ≤ 4590 → l * w + at ≤ 17 * 272 ^ (k + 1)
 index-bound k at w l p q r =
     let e : 272 ^ (k + 1) ≡ 272 * 272 ^ k = ap (λ (n : ℕ). 272 ^ n) (add-one k) ∙ pow-succ' 272 k in

@@ -32,7 +32,7 @@ fn given(t: Task, job: Job) -> u32
     }
 }
 
-// A task state's local number.
+// A task state's local number: small for any two bytes, so that no index wraps.
 pub fn local_number(t: Task, x: TaskState) -> u32
     ensures { λ r. ⌜ r ≡ localOf t x ⌝ }
     ensures small { λ r. ⌜ r ≤ 4590 ⌝ }
@@ -86,8 +86,10 @@ pub fn index_of(s: Set, xs: [TaskState; 7]) -> usize
     while k < s.count as usize {
         let t = s.tasks[k];
         let x = xs[k];
-        at = (local_number(t, x) as usize) * weight + at;
-        weight = (sets::locals(t) as usize) * weight;
+        let local = local_number(t, x) as usize;
+        let n = sets::locals(t) as usize;
+        at = local * weight + at;
+        weight = n * weight;
         k += 1;
     }
     at

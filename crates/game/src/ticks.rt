@@ -46,10 +46,12 @@ pub fn is_runnable(t: Task, x: TaskState) -> bool
 fn allows(list: u16, time: u32, ends: bool) -> bool
     ensures { λ r. ⌜ r ≡ allowed (listed list time) (eqb time (longestOf list)) ends ⌝ }
 {
+    let on = lists::has(list, time);
+    let last = time == lists::longest(list);
     if ends {
-        return lists::has(list, time);
+        return on;
     }
-    time != lists::longest(list)
+    !last
 }
 
 // Whether a task's job can finish or go on, as decided.
@@ -106,14 +108,16 @@ pub fn tick(t: Task, run: bool, x: TaskState, finishes: bool, arrives: bool) -> 
     let job = x.job;
     let after = job_after(t, run, finishes, job);
     let age = x.age + 1;
-    if is_late(t, age, after) {
+    let late = is_late(t, age, after);
+    let fresh = TaskState {
+        age: 0,
+        job: Job::InHand(0),
+    };
+    if late {
         return Ticked::Missed;
     }
     if arrives {
-        return Ticked::Next(TaskState {
-            age: 0,
-            job: Job::InHand(0),
-        });
+        return Ticked::Next(fresh);
     }
     Ticked::Next(TaskState {
         age: age,
@@ -166,13 +170,16 @@ pub fn moves_of(t: Task, run: bool, local: u32) -> Moves
     let waits = age < lists::longest(t.gaps);
     if run {
         let more = g + 1 < cmax;
+        let done = lists::has(t.runs, g + 1);
+        let ended = older + (cmax - g);
+        let stayed = older + 1;
         return Moves {
             misses: both(late, more),
             comes: comes,
-            ends: both(lists::has(t.runs, g + 1), waits),
-            ended: older + (cmax - g),
+            ends: both(done, waits),
+            ended: ended,
             stays: both(more, waits),
-            stayed: older + 1,
+            stayed: stayed,
         };
     }
     Moves {

@@ -39,24 +39,25 @@ array-copy-out-x c = search needs
 local-number-requires : tie.Need-local-number-requires Inv-loop μ-loop
 local-number-requires c κs = search needs
 
-cast-at : tie.Need-cast-at Inv-loop μ-loop
-cast-at c = search needs
+cast-local : tie.Need-cast-local Inv-loop μ-loop
+cast-local c = search needs
 
-top : (c : tie.After-local-number Inv-loop μ-loop) → c .local-number .result * c .before .before .before .before .loop .weight + c .before .before .before .before .loop .at < 2 ^ 64
-top c = let l = c .before .before .before .before .loop in
-    index-top (l .k) (l .at) (l .weight) (c .local-number .result) (omega arith) (l .inv .5) (l .inv .3) (c .local-number .ensures .1)
+locals-requires : tie.Need-locals-requires Inv-loop μ-loop
+locals-requires c κs = search needs
+
+cast-n : tie.Need-cast-n Inv-loop μ-loop
+cast-n c = search needs
+
+top : (c : tie.After-locals Inv-loop μ-loop) → let l = c .before .before .before .before .before .loop in c .before .local-number .result * l .weight + l .at < 2 ^ 64
+top c = let l = c .before .before .before .before .before .loop in
+    let x = c .before .local-number in
+    index-top (l .k) (l .at) (l .weight) (x .result) (omega arith) (l .inv .5) (l .inv .3) (x .ensures .1)
 
 mul-at : tie.Need-mul-at Inv-loop μ-loop
 mul-at c = omega (arith, top c)
 
 add-at : tie.Need-add-at Inv-loop μ-loop
 add-at c = omega (arith, top c)
-
-locals-requires : tie.Need-locals-requires Inv-loop μ-loop
-locals-requires c κs = search needs
-
-cast-weight : tie.Need-cast-weight Inv-loop μ-loop
-cast-weight c = search needs
 
 mul-weight : tie.Need-mul-weight Inv-loop μ-loop
 mul-weight c = let l = c .before .before .before .before .before .loop in
@@ -70,14 +71,22 @@ loop-less c = search needs
 
 loop-again : tie.Need-loop-again Inv-loop μ-loop
 loop-again c = let l = c .before .before .before .before .before .loop in
-    let s = c .before .before .before .before .before .before .args .t1 in
-    let n = c .before .local-number in
-    (omega arith, l .inv .1, states-step s (l .k) (l .weight) (c .locals .result) (l .inv .2) (c .locals .ensures .0), bound-step (l .k) (l .weight) (c .locals .result) (l .inv .3) (c .locals .ensures .1), index-step s (c .before .before .before .before .before .before .args .t2) (l .k) (l .at) (l .weight) (n .result) (l .inv .4) (l .inv .2) (n .ensures .0), index-bound (l .k) (l .at) (l .weight) (n .result) (l .inv .5) (l .inv .3) (n .ensures .1))
+    let a = c .before .before .before .before .before .before .args in
+    let x = c .before .local-number in
+    let n = c .locals in (
+      omega arith,
+      l .inv .1,
+      states-step (a .t1) (l .k) (l .weight) (n .result) (l .inv .2) (n .ensures .0),
+      bound-step (l .k) (l .weight) (n .result) (l .inv .3) (n .ensures .1),
+      index-step (a .t1) (a .t2) (l .k) (l .at) (l .weight) (x .result) (l .inv .4) (l .inv .2) (x .ensures .0),
+      index-bound (l .k) (l .at) (l .weight) (x .result) (l .inv .5) (l .inv .3) (x .ensures .1),
+    )
 
 returns : tie.Need-returns Inv-loop μ-loop
 returns c = let l = c .before .loop in
-    let e : l .k ≡ c .before .before .args .t1 .count = omega arith in
-    l .inv .4 ∙ ap (indexTo (c .before .before .args .t1) (c .before .before .args .t2)) e
+    let a = c .before .before .args in
+    let e : l .k ≡ a .t1 .count = omega arith in
+    l .inv .4 ∙ ap (indexTo (a .t1) (a .t2)) e
 
 pub index-of-spec : {M : Type 1} → statement M
 index-of-spec =
@@ -92,11 +101,11 @@ index-of-spec =
     mul-x
     array-copy-out-x
     local-number-requires
-    cast-at
+    cast-local
+    locals-requires
+    cast-n
     mul-at
     add-at
-    locals-requires
-    cast-weight
     mul-weight
     add-k
     loop-less

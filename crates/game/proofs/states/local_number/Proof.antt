@@ -1,5 +1,5 @@
 -- Age times slots and the ticks given.
-use Prim.Native.Nat.{_+_, _*_, _≤_}
+use Prim.Native.Nat.{ℕ, _+_, _*_, _≤_}
 use native.Mathlib.Omega.{arith}
 use Rattle.tasks.proofs.ListLaws.{longest-le}
 use Rattle.game.specs.States.{localOf}
@@ -14,24 +14,24 @@ cast-result c = search needs
 longest-requires : tie.Need-longest-requires
 longest-requires c κs = search needs
 
+small : (c : tie.After-longest) (g : ℕ) → g ≤ 255 → c .before .before .args .x .age * (c .longest .result + 1) + g ≤ 4590
+small c g h = local-small _ _ g (c .before .struct-known .given .0 .fits) (omega (arith, longest-le (c .before .before .args .t .runs))) h
+
 add-result : tie.Need-add-result
 add-result c = omega (arith, longest-le (c .before .before .args .t .runs))
 
 mul-result : tie.Need-mul-result
-mul-result c = omega (arith, longest-le (c .before .before .args .t .runs), local-small (c .before .before .args .x .age) (c .longest .result) 0 (c .before .struct-known .given .0 .fits) (omega (arith, longest-le (c .before .before .args .t .runs))) (omega arith))
+mul-result c = omega (arith, small c 0 (omega arith))
 
 given-requires : tie.Need-given-requires
 given-requires c κs = search needs
 
-small : (c : tie.After-given) → c .before .before .before .args .x .age * (c .before .longest .result + 1) + c .given .result ≤ 4590
-small c = local-small _ _ _ (c .before .before .struct-known .given .0 .fits) (omega (arith, longest-le (c .before .before .before .args .t .runs))) (c .given .ensures .1)
-
 add-result-2 : tie.Need-add-result-2
-add-result-2 c = omega (arith, small c)
+add-result-2 c = omega (arith, small (c .before) (c .given .result) (c .given .ensures .1))
 
 returns : tie.Need-returns
 unfolding localOf
-returns c = (simp (c .before .longest .ensures, c .given .ensures .0), small c)
+returns c = (simp (c .before .longest .ensures, c .given .ensures .0), small (c .before) (c .given .result) (c .given .ensures .1))
 
 pub local-number-spec : {M : Type 1} → statement M
 local-number-spec =

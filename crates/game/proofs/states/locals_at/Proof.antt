@@ -3,7 +3,7 @@ use borrow.Author.Needs.{needs}
 use borrow.Author.Count.{below-none}
 use mathlib.Core.Path.{_≡_, refl, sym}
 use Prim.Native.Nat.{ℕ, _-_, _/_, _≤_, _<_}
-use native.Mathlib.Nat.{div-one, mod-lt}
+use native.Mathlib.Nat.{div-one, mod-lt, le-trans}
 use native.Mathlib.Omega.{arith}
 use lib.ListN.{length, getD, length-set}
 use Rattle.tasks.specs.Sets.{statesTo}
@@ -46,7 +46,7 @@ rem-d : tie.Need-rem-d Inv-loop μ-loop
 rem-d c = pos c
 
 cast-d : tie.Need-cast-d Inv-loop μ-loop
-cast-d c = omega (arith, mod-lt (c .before .before .before .loop .rest) (pos c))
+cast-d c = record { fits = le-trans (mod-lt _ (pos c)) (omega arith) }
 
 mul-d : tie.Need-mul-d Inv-loop μ-loop
 mul-d c = search needs
@@ -65,9 +65,15 @@ loop-less c = search needs
 
 loop-again : tie.Need-loop-again Inv-loop μ-loop
 loop-again c = let l = c .before .before .before .loop in
-    let s = c .before .before .before .before .args .t1 in
-    let h : l .k < length (l .d) = omega arith in
-    (omega arith, l .inv .1, simp length-set (l .inv .2), rest-step s (c .before .before .before .before .args .i) (l .k) (c .locals .result) (l .rest) (l .inv .3) (c .locals .ensures .0), locals-step s (c .before .before .before .before .args .i) (l .k) (c .locals .result) (l .rest) (l .inv .3) (c .locals .ensures .0) (l .d) h (l .inv .4))
+    let a = c .before .before .before .before .args in
+    let n = c .locals in
+    let h : l .k < length (l .d) = omega arith in (
+      omega arith,
+      l .inv .1,
+      simp length-set (l .inv .2),
+      rest-step (a .t1) (a .i) (l .k) (n .result) (l .rest) (l .inv .3) (n .ensures .0),
+      locals-step (a .t1) (a .i) (l .k) (n .result) (l .rest) (l .inv .3) (n .ensures .0) (l .d) h (l .inv .4),
+    )
 
 returns : tie.Need-returns Inv-loop μ-loop
 returns c = λ k h. c .before .loop .inv .4 k (omega arith)

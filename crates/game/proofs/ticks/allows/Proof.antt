@@ -6,14 +6,14 @@ use Rattle.game.proofs.ticks.allows.Tie as tie
 has-requires : tie.Need-has-requires
 has-requires c κs = search needs
 
-returns : tie.Need-returns
-returns c = simp (c .before .if1 .taken, c .has .ensures)
-
 longest-requires : tie.Need-longest-requires
 longest-requires c κs = search needs
 
+returns : tie.Need-returns
+returns c = simp (c .if1 .taken, c .before .before .has .ensures)
+
 returns-2 : tie.Need-returns-2
-returns-2 c = simp (c .before .if1 .left, c .longest .ensures)
+returns-2 c = simp (c .if1 .left, c .before .longest .ensures)
 
 pub allows-spec : {M : Type 1} → statement M
-allows-spec = tie.close (tie.spec has-requires returns longest-requires returns-2)
+allows-spec = tie.close (tie.spec has-requires longest-requires returns returns-2)

@@ -56,42 +56,47 @@ longest-requires-2 c κs = search needs
 add-more : tie.Need-add-more
 add-more c = omega (arith, small (c .before .before .before .before .before .before))
 
-both-requires-2 : tie.Need-both-requires-2
-both-requires-2 c κs = search needs
-
 add-has : tie.Need-add-has
-add-has c = omega (arith, small (c .before .before .before .before .before .before .before))
+add-has c = omega (arith, small (c .before .before .before .before .before .before))
 
 has-requires-2 : tie.Need-has-requires-2
 has-requires-2 c κs = search needs
 
+sub-ended : tie.Need-sub-ended
+sub-ended c = omega (arith, small (c .before .before .before .before .before .before .before))
+
+add-ended : tie.Need-add-ended
+add-ended c = omega (arith, small (c .before .before .before .before .before .before .before))
+
+add-stayed : tie.Need-add-stayed
+add-stayed c = omega (arith, small (c .before .before .before .before .before .before .before))
+
+both-requires-2 : tie.Need-both-requires-2
+both-requires-2 c κs = search needs
+
 both-requires-3 : tie.Need-both-requires-3
 both-requires-3 c κs = search needs
-
-sub-t20 : tie.Need-sub-t20
-sub-t20 c = omega (arith, small (c .before .before .before .before .before .before .before .before .before))
-
-add-t21 : tie.Need-add-t21
-add-t21 c = omega (arith, small (c .before .before .before .before .before .before .before .before .before))
 
 both-requires-4 : tie.Need-both-requires-4
 both-requires-4 c κs = search needs
 
-add-t23 : tie.Need-add-t23
-add-t23 c = omega (arith, small (c .before .before .before .before .before .before .before .before .before .before))
-
 returns : tie.Need-returns
-returns c = λ p. let a = c .before .before .before .before .before .before .before .before .before .before .before .args in
-    simp (c .both4 .ensures, c .before .both3 .ensures, c .before .before .has2 .ensures, c .before .before .before .both2 .ensures, c .before .before .before .before .before .longest2 .ensures, c .before .before .before .before .before .before .has .ensures, c .before .before .before .before .before .before .before .both .ensures, c .before .before .before .before .before .before .before .before .before .before .longest .ensures, c .before .before .before .before .if1 .taken)
-    (summary-every (a .t) (a .local) (c .before .before .before .before .before .before .before .before .before .before .before .pre .0) p true (λ _. c .before .before .before .before .before .before .before .before .before .before .before .pre .1 (subst T (sym (c .before .before .before .before .if1 .taken)) tt)))
+returns c = λ p. let t = c .before .before .before .before in
+    let f = t .before .before .before .before .before .before in
+    let a = f .before .args in
+    let h = f .before .pre in
+    simp (c .both4 .ensures, c .before .both3 .ensures, c .before .before .both2 .ensures, c .before .before .before .has2 .ensures, t .if1 .taken, t .before .longest2 .ensures, t .before .before .has .ensures, t .before .before .before .both .ensures, f .longest .ensures)
+    (summary-every (a .t) (a .local) (h .0) p true (λ _. h .1 (subst T (sym (t .if1 .taken)) tt)))
 
 both-requires-5 : tie.Need-both-requires-5
 both-requires-5 c κs = search needs
 
 returns-2 : tie.Need-returns-2
-returns-2 c = λ p. let a = c .before .before .before .before .before .before .before .before .args in
-    simp (c .both5 .ensures, c .before .before .longest2 .ensures, c .before .before .before .has .ensures, c .before .before .before .before .both .ensures, c .before .before .before .before .before .before .before .longest .ensures, c .before .if1 .left)
-    (summary-every (a .t) (a .local) (c .before .before .before .before .before .before .before .before .pre .0) p false absurd)
+returns-2 c = λ p. let t = c .before in
+    let f = t .before .before .before .before .before .before in
+    let a = f .before .args in
+    simp (c .both5 .ensures, t .if1 .left, t .before .longest2 .ensures, t .before .before .has .ensures, t .before .before .before .both .ensures, f .longest .ensures)
+    (summary-every (a .t) (a .local) (f .before .pre .0) p false absurd)
 
 pub moves-of-spec : {M : Type 1} → statement M
 moves-of-spec =
@@ -110,14 +115,14 @@ moves-of-spec =
     has-requires
     longest-requires-2
     add-more
-    both-requires-2
     add-has
     has-requires-2
+    sub-ended
+    add-ended
+    add-stayed
+    both-requires-2
     both-requires-3
-    sub-t20
-    add-t21
     both-requires-4
-    add-t23
     returns
     both-requires-5
     returns-2)
