@@ -1,14 +1,13 @@
 -- The game of a set that passes the test is a sound arena. Assumes nothing.
-use mathlib.Core.Path.{_≡_, refl, sym, ap, subst, _∙_}
-use mathlib.Core.Logic.{_⊎_, inl, inr, ⊎-elim}
-use mathlib.Core.Bool.{Bool, true, false, not, _&&_, cond}
-use mathlib.Core.List.{List, [], _∷_, _++_, map, List·Memᴰ·head, List·Memᴰ·tail}
+use mathlib.Core.Path.{_≡_, refl, sym, subst}
+use mathlib.Core.Bool.{Bool, true, false, not}
+use mathlib.Core.List.{List, [], map, List·Memᴰ·head, List·Memᴰ·tail}
 use Prim.Native.Nat.{ℕ, zero, suc, _+_, _*_, _≤_, _<_}
 use native.Mathlib.Omega.{arith}
 use lib.Arith.{digits-lt}
 use lib.Dec.{T, eqb, ltb, eqb→eq, eqb-refl, ltb→lt, lt→ltb, T-not}
-use Rattle.arena.specs.Tests.{_∈_, all, anyBelow}
-use Rattle.arena.specs.Arena.{Next, miss, go, Outcome, out, Sound}
+use Rattle.arena.specs.Tests.{_∈_, all}
+use Rattle.arena.specs.Arena.{Next, miss, go, out, Sound}
 use Rattle.arena.proofs.Tests.{and-left, and-right, and-by, all-at, all-by, anyBelow-by}
 use Rattle.tasks.specs.declared.sets.Task.{Task}
 use Rattle.tasks.specs.declared.sets.Set.{Set}
@@ -21,9 +20,9 @@ use Rattle.game.specs.declared.states.Job.the-variants.{Empty, InHand}
 use Rattle.game.specs.declared.states.TaskState.{TaskState}
 use Rattle.game.specs.declared.ticks.Ticked.{Ticked}
 use Rattle.game.specs.declared.ticks.Ticked.the-variants as Ticked
-use Rattle.game.specs.States.{givenFits, inRange, localOf, localAt, taskStateAt}
+use Rattle.game.specs.States.{givenFits, inRange, localOf, taskStateAt}
 use Rattle.game.specs.Ticks.{Flags, flagged, inHand, allowed, canFinish, canArrive, can, runnable, jobAfter, late, arrived, tickOf}
-use Rattle.game.specs.Game.{Seen, those, gather, flags, movesOf, beside, outcomesTo, legalAt, arenaOf}
+use Rattle.game.specs.Game.{gather, flags, movesOf, beside, outcomesTo, legalAt, arenaOf}
 use Rattle.game.proofs.StateLaws.{local-lt, states-pos, range-at}
 use Rattle.game.proofs.ListTests.{cond-case, Some, those-by, all-gather, all-map, some-map, some-gather}
 

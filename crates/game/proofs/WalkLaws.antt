@@ -1,14 +1,14 @@
 -- The walk over the tasks left tests the listed outcomes. Assumes nothing.
 use mathlib.Core.Path.{_≡_, refl, sym, ap, subst, fun-ext, _∙_}
 use mathlib.Core.Bool.{Bool, true, false, not, _&&_}
-use mathlib.Core.List.{List, [], _∷_, _++_, map}
+use mathlib.Core.List.{List}
 use Prim.Native.Nat.{ℕ, zero, suc, _+_, _*_, _≤_, _<_}
 use native.Mathlib.Nat.{add-mul, mul-assoc, add-assoc, zero-mul, zero-add, mul-one, add-zero}
 use native.Mathlib.Omega.{arith}
 use lib.Dec.{T, eqb, ltb, ltb→lt, lt→ltb}
 use lib.ListN.{getD}
 use Rattle.arena.specs.Tests.{all, imp}
-use Rattle.arena.specs.Arena.{Next, miss, go, Outcome, out, fine}
+use Rattle.arena.specs.Arena.{Next, miss, go, Outcome, fine}
 use Rattle.arena.specs.Arena as Arena
 use Rattle.arena.proofs.Tests.{T-true, and-left, and-right, and-by, imp-at, imp-by, all-at, all-by}
 use Rattle.tasks.specs.declared.sets.Task.{Task}
@@ -21,7 +21,7 @@ use Rattle.game.specs.declared.ticks.Ticked.{Ticked}
 use Rattle.game.specs.declared.ticks.Ticked.the-variants as Ticked
 use Rattle.game.specs.States.{localOf, stateOf, localAt, taskStateAt}
 use Rattle.game.specs.Ticks.{tickOf}
-use Rattle.game.specs.Game.{Seen, movesOf, gather, beside, outcomesTo, legalAt, arenaOf}
+use Rattle.game.specs.Game.{Seen, movesOf, beside, outcomesTo, legalAt, arenaOf}
 use Rattle.game.specs.Walk.{lands, everyTick, every, walk}
 use Rattle.game.proofs.StateLaws.{local-lt}
 use Rattle.game.proofs.ListTests.{Some, all-cong, all-none, all-gather, all-map}

@@ -10,7 +10,7 @@ ghost use Prim.Native.Nat.{ℕ, _<_};
 ghost use lib.Dec.{T, eqb};
 ghost use Rattle.tasks.specs.Lists.{listed, longestOf};
 ghost use Rattle.tasks.specs.Sets.{localsOf};
-ghost use Rattle.game.specs.States.{stateOf, inRange, givenFits};
+ghost use Rattle.game.specs.States.{stateOf, givenFits};
 ghost use Rattle.game.specs.Ticks.{flagged, inHand, runnable, allowed, canFinish, can, jobAfter, late, tickOf};
 ghost use Rattle.game.specs.Walk.{every, everyTick};
 

@@ -1,10 +1,9 @@
 -- What the rounds come to is what the builder answers. Assumes nothing.
-use mathlib.Core.Path.{_≡_, refl, sym, ap, ap₂, subst, _∙_}
-use mathlib.Core.Bool.{Bool, true, false, cond}
+use mathlib.Core.Path.{_≡_, refl, sym, ap, ap₂, _∙_}
+use mathlib.Core.Bool.{Bool, true, false}
 use mathlib.Core.List.{List, _++_}
 use Prim.Native.Nat.{ℕ, suc, _≤_, _<_}
 use native.Mathlib.Omega.{arith}
-use lib.Dec.{ltb}
 use lib.ListN.{length, drop, replicate}
 use borrow.Author.Tests.{lt-ltb, le-ltb, ne-eqb}
 use Rattle.arena.specs.Arena.{R, falls, safe, safeCount, shield}
@@ -16,7 +15,6 @@ use Rattle.tasks.specs.Sets.{statesOf, testSet, Passed}
 use Rattle.tasks.proofs.Valid.{refused-number}
 use Rattle.game.specs.Game.{arenaOf}
 use Rattle.game.proofs.Sound.{sound}
-use Rattle.shield.specs.declared.builder.Built.{Built}
 use Rattle.shield.specs.declared.builder.Built.the-variants.{Done, Refused}
 use Rattle.shield.specs.declared.builder.Settled.{Settled}
 use Rattle.shield.specs.declared.builder.Settled.the-variants.{Safe, Falls}

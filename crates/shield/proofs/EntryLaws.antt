@@ -1,20 +1,19 @@
 -- Entries and the choices that they name; lists of values. Assumes nothing.
 use mathlib.Core.Path.{_≡_, refl, sym, ap, ap₂, subst, _∙_}
 use mathlib.Core.Logic.{⊎-elim}
-use mathlib.Core.Bool.{Bool, true, false, not, _&&_, _||_}
+use mathlib.Core.Bool.{Bool, true, false, not, _||_}
 use mathlib.Core.List.{List, [], _∷_, _++_, append-assoc}
 use Prim.Native.Nat.{ℕ, zero, suc, _+_, _-_, _*_, _/_, _%_, _^_, _≤_, _<_}
-use native.Mathlib.Nat.{pow-suc, pow-succ', mod-lt, mod-one, mod-eq-of-lt, mul-assoc, zero-div, zero-mod, zero-lt-suc, eq-or-lt-of-le, le-of-suc-le-suc, not-suc-le-zero}
+use native.Mathlib.Nat.{pow-suc, pow-succ', mod-lt, mod-one, mod-eq-of-lt, zero-lt-suc, eq-or-lt-of-le, le-of-suc-le-suc, not-suc-le-zero}
 use native.Mathlib.Numerals.{add-one}
 use native.Mathlib.Omega.{arith}
 use lib.Arith.{digits-div, mod-mul}
-use lib.Dec.{T, eqb, eqb→eq, eqb-refl, not-T, T-not}
+use lib.Dec.{eqb}
 use lib.ListN.{length, getD, take, drop, set, replicate, length-append, replicate-append-replicate}
 use lib.Pow.{pow-pos, pow-add}
 use lib.Seq.{drop-cons, set-at, getD-at, take-suc, length-take-le}
 use borrow.Author.Tests.{ne-eqb}
 use Rattle.arena.specs.Tests.{anyBelow, one}
-use Rattle.arena.proofs.Tests.{T-ext, anyBelow-at, anyBelow-by, or-cases}
 use Rattle.game.proofs.StateLaws.{digit-skip}
 use Rattle.shield.specs.Entries.{names, marks, listTo}
 

@@ -7,7 +7,7 @@ use tasks::sets::Set;
 use tasks::sets::Tested;
 ghost use mathlib.Core.Path.{_≡_};
 ghost use mathlib.Core.List.{_++_};
-ghost use Prim.Native.Nat.{ℕ, _<_, _≤_};
+ghost use Prim.Native.Nat.{_<_, _≤_};
 ghost use lib.ListN.{length, take, drop, replicate};
 ghost use Rattle.arena.specs.Tests.{count};
 ghost use Rattle.tasks.specs.Sets.{statesOf, Passed};

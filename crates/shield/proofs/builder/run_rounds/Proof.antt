@@ -1,9 +1,8 @@
 -- Before each turn the table is that after as many rounds as were counted, and the start is left.
 use borrow.Author.Needs.{needs}
 use mathlib.Core.List.{List, _++_}
-use mathlib.Core.Path.{_≡_, refl, sym, ap, ap₂, subst, _∙_}
-use Prim.Native.Nat.{ℕ, suc, _+_, _≤_, _<_}
-use native.Mathlib.Numerals.{add-one}
+use mathlib.Core.Path.{_≡_, refl, sym, ap, ap₂, _∙_}
+use Prim.Native.Nat.{ℕ, _+_, _≤_}
 use native.Mathlib.Omega.{arith}
 use lib.Dec.{T}
 use lib.ListN.{length, drop, replicate, length-replicate}
@@ -11,7 +10,7 @@ use lib.Seq.{drop-at}
 use Rattle.arena.specs.Arena as Arena
 use Rattle.arena.specs.Tests.{count}
 use Rattle.tasks.specs.declared.sets.Set.{Set}
-use Rattle.tasks.specs.Sets.{statesOf, Passed}
+use Rattle.tasks.specs.Sets.{statesOf}
 use Rattle.tasks.proofs.Valid.{passed-valid}
 use Rattle.game.specs.Game.{arenaOf}
 use Rattle.arena.proofs.Rounds.{R-le, R-more}

@@ -1,7 +1,7 @@
 -- The walk with k tasks left asks of each of task k's moves what the walk with k - 1 left says.
 use mathlib.Core.Path.{_≡_, refl, sym, ap, subst, _∙_}
 use mathlib.Core.Logic.{⊎-elim}
-use mathlib.Core.Bool.{Bool, true, false}
+use mathlib.Core.Bool.{Bool, true}
 use Prim.Native.Nat.{ℕ, suc, _+_, _-_, _*_, _^_, _≤_, _<_}
 use native.Mathlib.Nat.{add-zero}
 use native.Mathlib.Omega.{arith}
@@ -13,7 +13,7 @@ use borrow.Fn.Kinds.{In}
 use borrow.Fn.PlainCycle.{Measures, is, falls, and}
 use Rattle.arena.specs.Tests.{imp}
 use Rattle.tasks.specs.Sets.{taskAt, localsOf, statesTo, Passed}
-use Rattle.tasks.proofs.Valid.{Valid, passed-valid}
+use Rattle.tasks.proofs.Valid.{passed-valid}
 use Rattle.game.specs.States.{stateOf}
 use Rattle.game.specs.Ticks.{inHand}
 use Rattle.game.specs.Walk.{every, walk}
