@@ -1,10 +1,10 @@
 -- What a list's counts of bits say of its values. Over the width: d bits are looked at, of which the lowest is the value k's.
 -- Assumes nothing.
 use mathlib.Core.Path.{_≡_, refl, sym, ap, subst, _∙_}
-use mathlib.Core.Logic.{_⊎_, ⊎-elim, _↔_}
-use mathlib.Core.Bool.{Bool, true, false, _&&_}
+use mathlib.Core.Logic.{⊎-elim, _↔_}
+use mathlib.Core.Bool.{false, _&&_}
 use mathlib.Core.List.{List, [], _∷_, List·Memᴰ·head, List·Memᴰ·tail, List·Memᴰ·cases-cons}
-use Prim.Native.Nat.{ℕ, zero, suc, _+_, _-_, _*_, _/_, _%_, _^_, _<_, _≤_}
+use Prim.Native.Nat.{ℕ, zero, suc, _+_, _-_, _/_, _%_, _^_, _<_, _≤_}
 use native.Mathlib.Nat.{add-zero, add-suc, suc-add, pow-suc, pow-succ', mod-lt, zero-lt-suc, div-div-eq-div-mul, le-refl, le-trans, le-of-eq}
 use native.Mathlib.Numerals.{one-add}
 use native.Mathlib.Omega.{arith}

@@ -1,6 +1,6 @@
 -- What a set that passes the test is, rule by rule, and that such a set passes. Assumes nothing.
 use mathlib.Core.Path.{_≡_, refl, sym, ap, subst, _∙_}
-use mathlib.Core.Logic.{_⊎_, inl, inr, ⊎-elim}
+use mathlib.Core.Logic.{⊎-elim}
 use mathlib.Core.Bool.{Bool, true, false, not, _&&_, _||_, cond}
 use Prim.Native.Nat.{ℕ, zero, suc, _+_, _≤_, _<_}
 use native.Mathlib.Nat.{eq-or-lt-of-le}
@@ -11,7 +11,7 @@ use Rattle.arena.proofs.Tests.{and-left, and-right, not-not, lt-or-le}
 use Rattle.tasks.specs.declared.sets.Task.{Task}
 use Rattle.tasks.specs.declared.sets.Set.{Set}
 use Rattle.tasks.specs.declared.sets.Tested.{Tested}
-use Rattle.tasks.specs.declared.sets.Tested.the-variants.{States, Refused}
+use Rattle.tasks.specs.declared.sets.Tested.the-variants.{States}
 use Rattle.tasks.specs.Lists.{lengthOf, shortestOf}
 use Rattle.tasks.specs.Refusals.{badRecord, tooManyStates}
 use Rattle.tasks.specs.Sets.{goodName, within, cmax, unfit, blank, faultOf, taskAt, faultAt, statesOf, refuseOr, lowestFault, testStates, testSet, Passed}

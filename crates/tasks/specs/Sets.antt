@@ -1,11 +1,10 @@
 -- Task records, sets, and the test of a set.
-use mathlib.Core.Bool.{Bool, true, false, not, _&&_, _||_, cond}
+use mathlib.Core.Bool.{Bool, true, not, _&&_, _||_, cond}
 use mathlib.Core.List.{List, [], _∷_}
 use mathlib.Core.Path.{_≡_}
 use Prim.Native.Nat.{ℕ, zero, suc, _+_, _*_}
 use lib.Dec.{eqb, leb, ltb}
 use lib.ListN.{getD, drop}
-use Rattle.tasks.specs.declared.refusals.Refusal.{Refusal}
 use Rattle.tasks.specs.declared.sets.Task.{Task}
 use Rattle.tasks.specs.declared.sets.Set.{Set}
 use Rattle.tasks.specs.declared.sets.Tested.{Tested}
@@ -35,6 +34,7 @@ zeros (b ∷ l) = eqb b 0 && zeros l
 unfoldable pub goodName : List ℕ → Bool
 goodName name = ltb 0 (characters name) && zeros (drop (characters name) name)
 
+-- the kind is hard
 abbrev pub hard : Task → Bool
 hard τ = eqb (τ .kind) 1
 
@@ -49,6 +49,7 @@ amax τ = longestOf (τ .gaps)
 abbrev pub noTask : Task
 noTask = record { kind = 0; deadline = 0; runs = 0; gaps = 0 }
 
+-- each field is zero
 unfoldable pub blank : Task → Bool
 blank τ = eqb (τ .kind) 0 && (eqb (τ .deadline) 0 && (eqb (τ .runs) 0 && eqb (τ .gaps) 0))
 

@@ -4,7 +4,7 @@ use crate::refusals;
 use crate::refusals::Refusal;
 ghost use mathlib.Core.Path.{_≡_};
 ghost use Prim.Native.Nat.{_≤_, _<_};
-ghost use Rattle.tasks.specs.Sets.{nameByte, characters, goodName, within, unfit, blank, faultOf, faultAt, localsOf, statesTo, statesOf, testSet};
+ghost use Rattle.tasks.specs.Sets.{nameByte, characters, goodName, within, unfit, blank, faultOf, faultAt, localsOf, statesOf, testSet};
 
 // A task: its kind (0 soft, 1 hard), its deadline, its possible run times and the possible gaps between its arrivals.
 pub struct Task {

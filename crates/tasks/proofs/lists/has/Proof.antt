@@ -1,6 +1,5 @@
 -- A value is on the list where its bit is set.
-use mathlib.Core.Path.{_≡_, refl, sym, ap}
-use native.Mathlib.Omega.{arith}
+use mathlib.Core.Path.{sym, ap}
 use borrow.Author.Needs.{needs}
 use Rattle.tasks.specs.Lists.{listed}
 use Rattle.tasks.proofs.ListLaws.{listed-at, listed-past}

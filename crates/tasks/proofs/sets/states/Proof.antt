@@ -1,7 +1,7 @@
 -- The states of the first i tasks.
 use borrow.Author.Needs.{needs}
-use mathlib.Core.Path.{_≡_, sym, ap, _∙_}
-use Prim.Native.Nat.{_+_, _-_, _*_, _^_, _≤_}
+use mathlib.Core.Path.{_≡_, ap, _∙_}
+use Prim.Native.Nat.{_+_, _-_, _^_, _≤_}
 use native.Mathlib.Omega.{arith}
 use Rattle.tasks.specs.Sets.{statesTo}
 use Rattle.tasks.proofs.SetLaws.{states-step, bound-step, bound-top}
