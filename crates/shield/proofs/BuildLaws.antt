@@ -84,5 +84,5 @@ module _ (s : Set) (p : Passed s) (t w : List ℕ) where
 -- a set refused by its own test changes nothing
 pub built-refused : (s : Set) (t w : List ℕ) (f : Refusal) → testSet s ≡ Tested.Refused f → Builds s t w (Refused f) t w
 built-refused s t w f e =
-    let n = ne-eqb (f .number) noSafeSchedule (λ q. omega (arith, refused-number s f e)) in
+    let n = ne-eqb (f .number) noSafeSchedule (λ q. omega (arith, refused-number s f e .1)) in
     record { answer = sym (ap (buildTested s (length t) (length w)) e); table = simp n; work = simp n }

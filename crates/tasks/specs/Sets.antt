@@ -34,6 +34,7 @@ zeros (b ∷ l) = eqb b 0 && zeros l
 unfoldable pub goodName : List ℕ → Bool
 goodName name = ltb 0 (characters name) && zeros (drop (characters name) name)
 
+-- the kind is hard
 abbrev pub hard : Task → Bool
 hard τ = eqb (τ .kind) 1
 
@@ -48,6 +49,7 @@ amax τ = longestOf (τ .gaps)
 abbrev pub noTask : Task
 noTask = record { kind = 0; deadline = 0; runs = 0; gaps = 0 }
 
+-- each field is zero
 unfoldable pub blank : Task → Bool
 blank τ = eqb (τ .kind) 0 && (eqb (τ .deadline) 0 && (eqb (τ .runs) 0 && eqb (τ .gaps) 0))
 

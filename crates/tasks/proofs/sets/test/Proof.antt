@@ -45,7 +45,7 @@ cast-t12 c = search needs
 returns-3 : tie.Need-returns-3 Inv-loop μ-loop
 returns-3 c = let s = c .before .before .before .before .before .before .before .before .before .args .s in
     let e = c .before .fault-at .ensures in
-    sym (c .before .before .before .loop .inv .1 ∙ fault-here s (c .before .before .before .loop .i) (testStates s) (c .before .before .loop-test .taken) (λ z. c .if3 .taken (e ∙ z)) ∙ ap (λ n. Refused (record { number = n; place = c .before .before .before .loop .i + 1 })) (sym e))
+    sym (c .before .before .before .loop .inv .1 ∙ fault-here s (c .before .before .before .loop .i) (testStates s) (omega arith) (λ z. c .if3 .taken (e ∙ z)) ∙ ap (λ n. Refused (record { number = n; place = c .before .before .before .loop .i + 1 })) (sym e))
 
 add-i : tie.Need-add-i Inv-loop μ-loop
 add-i c = search needs
@@ -55,7 +55,7 @@ loop-less c = search needs
 
 loop-again : tie.Need-loop-again Inv-loop μ-loop
 loop-again c = let s = c .before .before .before .before .before .before .before .before .before .args .s in
-    (omega arith, c .before .before .before .loop .inv .1 ∙ fault-none s (c .before .before .before .loop .i) (testStates s) (c .before .before .loop-test .taken) (sym (c .before .fault-at .ensures) ∙ c .if3 .left))
+    (omega arith, c .before .before .before .loop .inv .1 ∙ fault-none s (c .before .before .before .loop .i) (testStates s) (omega arith) (sym (c .before .fault-at .ensures) ∙ c .if3 .left))
 
 states-requires : tie.Need-states-requires Inv-loop μ-loop
 states-requires c κs =
@@ -64,14 +64,14 @@ states-requires c κs =
 
 returns-4 : tie.Need-returns-4 Inv-loop μ-loop
 returns-4 c = let s = c .before .before .before .before .before .before .before .before .before .args .s in
-    sym (c .before .before .before .loop .inv .1 ∙ fault-end s (c .before .before .before .loop .i) (testStates s) (c .before .before .loop-test .left) ∙ states-over s (omega (arith, c .before .states .ensures)))
+    sym (c .before .before .before .loop .inv .1 ∙ fault-end s (c .before .before .before .loop .i) (testStates s) (omega arith) ∙ states-over s (omega (arith, c .before .states .ensures)))
 
 cast-t15 : tie.Need-cast-t15 Inv-loop μ-loop
 cast-t15 c = search needs
 
 returns-5 : tie.Need-returns-5 Inv-loop μ-loop
 returns-5 c = let s = c .before .before .before .before .before .before .before .before .before .args .s in
-    sym (c .before .before .before .loop .inv .1 ∙ fault-end s (c .before .before .before .loop .i) (testStates s) (c .before .before .loop-test .left) ∙ states-fit s (omega (arith, c .before .states .ensures)) ∙ ap States (sym (c .before .states .ensures)))
+    sym (c .before .before .before .loop .inv .1 ∙ fault-end s (c .before .before .before .loop .i) (testStates s) (omega arith) ∙ states-fit s (omega (arith, c .before .states .ensures)) ∙ ap States (sym (c .before .states .ensures)))
 
 pub test-spec : {M : Type 1} → statement M
 test-spec =
