@@ -1,0 +1,91 @@
+-- The worked figures that are to be proved: what is asked of the definitions that the contracts cite, and what it must be.
+use mathlib.Core.Bool.{Bool, true, false}
+use mathlib.Core.List.{List, [], _∷_, _++_, map}
+use Prim.Native.Nat.{ℕ}
+use lib.ListN.{length, replicate}
+use Rattle.tasks.specs.declared.sets.Task.{Task}
+use Rattle.tasks.specs.declared.sets.Set.{Set}
+use Rattle.tasks.specs.Lists.{valuesOf}
+use Rattle.tasks.specs.Refusals.{Said}
+use Rattle.tasks.specs.Sets.{noTask}
+use Rattle.game.specs.declared.states.Job.the-variants.{Empty, InHand}
+use Rattle.game.specs.declared.states.TaskState.{TaskState}
+use Rattle.game.specs.States.{indexOf}
+use Rattle.shield.specs.Entries.{entryAt}
+use Rattle.shield.specs.Shield.{shieldTable}
+use Rattle.shield.specs.Build.{buildOf, saidBuilt}
+use Rattle.shield.specs.Test.{testOf, saidVerdict}
+
+-- tasks with one run time or two and one gap, their lists kept as bits; a set of one task or two, its name the letters of PAIR
+abbrev hard : ℕ → ℕ → ℕ → Task
+hard d c a = record { kind = 1; deadline = d; runs = c; gaps = a }
+
+abbrev soft : ℕ → ℕ → ℕ → Task
+soft d c a = record { kind = 0; deadline = d; runs = c; gaps = a }
+
+abbrev named : ℕ → List Task → Set
+named n ts = record { name = 80 ∷ 65 ∷ 73 ∷ 82 ∷ replicate 12 0; count = n; tasks = ts }
+
+abbrev one : Task → Set
+one a = named 1 (a ∷ replicate 6 noTask)
+
+abbrev two : Task → Task → Set
+two a b = named 2 (a ∷ b ∷ replicate 5 noTask)
+
+-- PAIR, and source 000's example 1
+abbrev PAIR : Set
+PAIR = two (hard 2 1 2) (hard 2 1 2)
+
+abbrev example : Set
+example = two (hard 2 1 4) (soft 2 3 4)
+
+-- what can be asked
+pub data Question : Type 0 where
+  values : ℕ → Question
+  index : Set → List TaskState → Question
+  table : Set → Question
+  entries : Set → List ℕ → Question
+  build : Set → Question
+  test : Set → List ℕ → Question
+
+abbrev said : Said → List ℕ
+said a = a .number ∷ a .place ∷ a .values
+
+-- the answer: a list's values; an index; a built table, whole or at some indices; what builder and tester say, with room enough
+abbrev pub answer : Question → List ℕ
+answer (values l) = valuesOf l
+answer (index s xs) = indexOf s xs ∷ []
+answer (table s) = shieldTable s
+answer (entries s is) = map (entryAt (shieldTable s)) is
+answer (build s) = said (saidBuilt (buildOf s 60000 60000))
+answer (test s t) = said (saidVerdict (testOf s t))
+
+pub record Figure : Type 0 where
+  pub asked : Question
+  pub is : List ℕ
+
+abbrev figure : Question → List ℕ → Figure
+figure q l = record { asked = q; is = l }
+
+abbrev pub figures : List Figure
+figures =
+    -- P1, P2: PAIR's table, 15 safe, R 1, start's entry 6
+    figure (table PAIR) (6 ∷ 5 ∷ 2 ∷ 5 ∷ 3 ∷ 1 ∷ 2 ∷ 1 ∷ 4 ∷ 4 ∷ 0 ∷ 4 ∷ 3 ∷ 1 ∷ 2 ∷ 1 ∷ [])
+    ∷ figure (build PAIR) (0 ∷ 0 ∷ 15 ∷ 1 ∷ 6 ∷ [])
+    -- P3: hard 1 1 1
+    ∷ figure (table (one (hard 1 1 1))) (2 ∷ 1 ∷ [])
+    ∷ figure (build (one (hard 1 1 1))) (0 ∷ 0 ∷ 2 ∷ 0 ∷ 2 ∷ [])
+    -- P4: source 000, example 1
+    ∷ figure (entries example (0 ∷ 21 ∷ 26 ∷ 32 ∷ 4 ∷ [])) (7 ∷ 5 ∷ 2 ∷ 2 ∷ 0 ∷ [])
+    ∷ figure (build example) (0 ∷ 0 ∷ 45 ∷ 1 ∷ 7 ∷ [])
+    -- P5: two of hard 3 2 4
+    ∷ figure (build (two (hard 3 2 8) (hard 3 2 8))) (8 ∷ 3 ∷ 0 ∷ 0 ∷ 0 ∷ [])
+    -- P6: hard 2 1,2 2 and hard 2 1 2
+    ∷ figure (build (two (hard 2 3 2) (hard 2 1 2))) (8 ∷ 2 ∷ 0 ∷ 0 ∷ 0 ∷ [])
+    -- P7: hard age 1 without job, soft age 1 fresh
+    ∷ figure (index example (record { age = 1; job = Empty } ∷ record { age = 1; job = InHand 0 } ∷ [])) (21 ∷ [])
+    -- P8: the list 3,5,9
+    ∷ figure (values 276) (3 ∷ 5 ∷ 9 ∷ [])
+    -- P12: PAIR with every entry 1
+    ∷ figure (test PAIR (replicate 16 1)) (13 ∷ 2 ∷ [])
+    ∷ []
