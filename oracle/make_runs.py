@@ -208,7 +208,7 @@ class Runs(Base):
         self.restore()
         run = self.fitting_run(awaiting=self.chance(40))
         self.put_run(run)
-        for command in self.shuffled(self.spoiling_commands())[:6]:
+        for command in self.shuffled(self.spoiling_commands())[:9]:
             self.say(*command)
             if self.chance(15):
                 self.say(*self.pick(self.spoiling_commands()))
@@ -224,19 +224,28 @@ class Runs(Base):
             self.put_run(run)
 
     def act_sums(self):
-        """Counts that would fit if the sums wrapped."""
+        """Counts whose sums hold, or would if they wrapped, but which are
+        out of bounds; and the bounds themselves."""
         self.restore()
         run = self.fitting_run(awaiting=False)
-        places = list(run.places)
         which = self.below(self.set.count)
-        place = places[which]
+        place = run.places[which]
         in_hand = 0 if place.job is None else 1
-        places[which] = place._replace(
-            finished=4294967295,
-            replaced=(place.arrived - in_hand + 1) % (1 << 32))
-        self.put_run(run._replace(places=tuple(places)))
-        self.say("ask", 0)
-        self.say("show", "run")
+        most = run.ticks + 1
+        for changed in self.shuffled([
+                place._replace(finished=4294967295,
+                               replaced=place.arrived - in_hand + 1),
+                place._replace(job=None, arrived=0, finished=0, replaced=0),
+                place._replace(arrived=most + 1, finished=most + 1 - in_hand,
+                               replaced=0),
+                place._replace(arrived=most, replaced=most - in_hand,
+                               finished=0)]):
+            places = list(run.places)
+            places[which] = changed
+            self.put_run(run._replace(places=tuple(places)))
+            self.say("ask", self.below(self.set.count + 1))
+            if self.chance(30):
+                self.say("show", "run")
 
     def act_last_ticks(self):
         """The end of the ticks."""
@@ -252,8 +261,10 @@ class Runs(Base):
                 self.good_report()
             else:
                 self.say("report", self.next_reading(), 0, 0)
+        self.say("awaited", "none")
+        self.say("ticks", runs.MOST_TICKS)
         self.say("ask", self.pick([0, 1, 255]))
+        self.say("ask", self.below(self.set.count + 1))
         self.say("show", "run")
-        if self.chance(50):
-            self.say("awaited", 0)
-            self.say("report", self.next_reading(), 0, 0)
+        self.say("awaited", 0)
+        self.say("report", self.next_reading(), 0, 0)

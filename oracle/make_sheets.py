@@ -77,8 +77,9 @@ class Sheets(Base):
             lines.insert(self.below(len(lines)), lines[at])
         elif way == 7:
             lines.pop(self.below(len(lines)))
-        elif way == 8:  # too many tasks
-            lines[-1:-1] = [lines[at]] * self.between(1, 7)
+        elif way == 8:  # seven, eight or more tasks
+            lines[-1:-1] = [lines[at]] * (self.pick([7, 8, 8, 9])
+                                          - self.set.count)
         elif way == 9:  # names
             letters = sets.NAME_CHARACTERS.decode("ascii")
             name = "".join(self.pick(letters) for _ in

@@ -161,17 +161,15 @@ class Tables(Base):
         """One byte of each part of the file altered."""
         self.good_file()
         header = 26 + 6 * self.set.count
-        for least, most in self.shuffled([(0, 2), (3, 4), (5, header - 1),
-                                          (5, header - 1),
+        for least, most in self.shuffled([(0, 2), (3, 3), (4, 4),
+                                          (5, header - 1), (5, header - 1),
                                           (header - 4, header - 1),
                                           (header, self.file_length() - 1)]):
             offset = self.between(least, most)
             before = self.machine.buffers["file"][offset]
             self.say("poke", "file", offset,
-                     self.pick([before ^ (1 << self.below(8)),
-                                before ^ self.between(1, 255),
-                                before ^ self.between(1, 255),
-                                0, 1, before]))
+                     before ^ self.pick([1 << self.below(8),
+                                         self.between(1, 255)]))
             self.say("open")
             if self.chance(40):
                 self.say("sum", "table")

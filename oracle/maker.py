@@ -16,7 +16,7 @@ import shield
 from refusal import Refused
 from replay import Replay
 
-MOST_WORK = 100000  # outcomes of all states together, for most sets
+MOST_WORK = 120000  # outcomes of all states together, for most sets
 LARGE_WORK = 1200000  # the same for the few large sets
 
 
@@ -71,11 +71,14 @@ class Base:
     def some_of(self, values, percent):
         return [value for value in values if self.chance(percent)]
 
-    def random_task(self, most_deadline, hard_percent):
+    def random_task(self, most_deadline, most_above, hard_percent):
+        """A valid task; its gaps lie up to twice `most_above` above D."""
         deadline = self.between(1, most_deadline)
         cmax = min(self.between(1, deadline), self.between(1, deadline))
-        amin = min(16, deadline + self.pick([0, 0, 0, 1, 1, 2, 3]))
-        top = min(16, amin + self.pick([0, 0, 1, 2, 3]))
+        amin = min(16, deadline + min(self.between(0, most_above),
+                                      self.between(0, most_above)))
+        top = min(16, amin + min(self.between(0, most_above),
+                                 self.between(0, most_above)))
         c_values = self.some_of(range(1, cmax), 40) + [cmax]
         a_values = [amin] + self.some_of(range(amin + 1, top + 1), 50)
         kind = sets.HARD if self.chance(hard_percent) else sets.SOFT
@@ -90,21 +93,21 @@ class Base:
     def random_set(self, least_states, most_states, most_work):
         """A valid set within the limits."""
         while True:
-            n = self.pick([1, 1, 2, 2, 2, 2, 3, 3, 3, 4, 4, 5, 6, 7])
-            if least_states > 4000:
-                n = self.pick([2, 3, 3, 4, 5])
-            most_deadline = [16, 16, 8, 6, 4, 3, 2, 2][n]
-            hard_percent = self.pick([30, 60, 60, 80, 100])
-            tasks = [self.random_task(most_deadline, hard_percent)
-                     for _ in range(n)]
-            if n > 1 and self.chance(30):
-                tasks[-1] = tasks[0]
-            made = sets.make_set(self.random_name(), tasks)
-            states = sets.state_number(made)
-            if not least_states <= states <= most_states:
-                continue
-            if work_of(made) <= most_work:
-                return made
+            n = self.pick([1, 2, 2, 2, 3, 3, 3, 4, 4, 5, 6, 7])
+            most_deadline = [0, 16, 8, 6, 4, 3, 2, 2][n]
+            most_above = [0, 4, 4, 3, 3, 2, 1, 1][n]
+            percents = [30, 60, 80, 100] if n <= 3 else [10, 20, 40, 60]
+            for _ in range(30):
+                percent = self.pick(percents)
+                tasks = [self.random_task(most_deadline, most_above, percent)
+                         for _ in range(n)]
+                if n > 1 and self.chance(30):
+                    tasks[-1] = tasks[0]
+                made = sets.make_set(self.random_name(), tasks)
+                states = sets.state_number(made)
+                if least_states <= states <= most_states \
+                        and work_of(made) <= most_work:
+                    return made
 
     def choose_set(self, safe):
         """A set with a safe start, or one without, as asked for."""
@@ -171,8 +174,8 @@ def work_of(task_set):
     """About how many outcomes all states of a set have."""
     work = sets.state_number(task_set) * (task_set.count + 1)
     for task in task_set.tasks[:task_set.count]:
-        ways = 1 + len(sets.values_of(task.gaps)) / sets.longest(task.gaps)
-        work *= min(2, ways)
+        amax = sets.longest(task.gaps)
+        work *= (amax + len(sets.values_of(task.gaps)) - 1) / amax
     return work
 
 
