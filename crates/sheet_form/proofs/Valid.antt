@@ -1,0 +1,167 @@
+-- What the test of a set says of a set that it passes: it has a sheet, of at most 1,024 bytes. Assumes nothing.
+use mathlib.Core.Path.{_≡_, refl, sym, ap, ap₂, _∙_, subst}
+use mathlib.Core.Bool.{Bool, true, false, not, _&&_, _||_, cond}
+use mathlib.Core.List.{List, [], _∷_, _++_}
+use Prim.Native.Nat.{ℕ, zero, suc, _+_, _-_, _≤_, _<_}
+use native.Mathlib.Omega.{arith}
+use lib.Dec.{T, eqb, ltb}
+use lib.ListN.{length, getD, take, drop, replicate, length-drop, length-replicate, getD-replicate, take-append-drop}
+use lib.Seq.{length-take-le, getD-take, getD-drop, ext-getD}
+use borrow.Author.Tests.{ltb-true, ltb-false, eqb-true, lt-ltb, le-ltb}
+use Rattle.tasks.specs.declared.sets.Task.{Task}
+use Rattle.tasks.specs.declared.sets.Set.{Set}
+use Rattle.tasks.specs.declared.sets.Tested.{Tested}
+use Rattle.tasks.specs.declared.sets.Tested.the-variants.{States}
+use Rattle.tasks.specs.Lists.{lengthOf}
+use Rattle.tasks.specs.Refusals.{badRecord}
+use Rattle.tasks.specs.Sets.{within, nameByte, characters, zeros, goodName, noTask, blank, unfit, faultOf, taskAt, faultAt, refuseOr, lowestFault, testStates, testSet}
+use Rattle.tasks.proofs.SetLaws.{within-both, characters-le}
+use Rattle.sheet_form.specs.Form.{Each, Small, NameOk}
+use Rattle.sheet_form.specs.Sets.{padded, Sized}
+
+-- what passes is not refused
+refuse-none : (n p : ℕ) (t : Tested) (k : ℕ) → refuseOr n p t ≡ States k → (n ≡ 0) × (t ≡ States k)
+refuse-none zero p t k e = (refl, e)
+refuse-none (suc n) p t k e = (cc, cc)
+
+cond-none : (b : Bool) (n : ℕ) → cond b 0 (suc n) ≡ 0 → b ≡ true
+cond-none true n e = refl
+cond-none false n e = let z : ⊥ = omega arith in absurd z
+
+both : (a b : Bool) → (a && b) ≡ true → (a ≡ true) × (b ≡ true)
+both true b e = (refl, e)
+both false b e = (e, cc)
+
+neither : (a b : Bool) → (a || b) ≡ false → (a ≡ false) × (b ≡ false)
+neither true b e = (e, cc)
+neither false b e = (refl, e)
+
+no-fault : (s : Set) (t : Tested) (k d i n : ℕ) → lowestFault s k i t ≡ States n → d < k → faultAt s (i + d) ≡ 0
+unfolding lowestFault
+no-fault s t zero d i n e h = let z : ⊥ = omega arith in absurd z
+no-fault s t (suc k) zero i n e h =
+    let z : i + 0 ≡ i = omega arith in ap (faultAt s) z ∙ refuse-none (faultAt s i) (suc i) _ n e .0
+no-fault s t (suc k) (suc d) i n e h =
+    let z : i + suc d ≡ suc i + d = omega arith in
+    ap (faultAt s) z ∙ no-fault s t k d (suc i) n (refuse-none (faultAt s i) (suc i) _ n e .1) (omega arith)
+
+-- a set that the test passes: its name and count are good, and no record is at fault
+pub record Passed (s : Set) : Type 0 where
+  pub name : goodName (s .name) ≡ true
+  pub low : 1 ≤ s .count
+  pub high : s .count ≤ 7
+  pub records : (i : ℕ) → i < 7 → faultAt s i ≡ 0
+
+pub passed : (s : Set) (n : ℕ) → testSet s ≡ States n → Passed s
+unfolding testSet
+passed s n e =
+    let r = refuse-none (cond (goodName (s .name) && within 1 7 (s .count)) 0 badRecord) 0 _ n e in
+    let g = both (goodName (s .name)) (within 1 7 (s .count)) (cond-none _ 2 (r .0)) in
+    let w = within-both 1 7 (s .count) (g .1) in
+    record {
+      name = g .0;
+      low = w .0;
+      high = w .1;
+      records = λ i h. let z : 0 + i ≡ i = omega arith in subst (λ j. faultAt s j ≡ 0) z (no-fault s (testStates s) 7 i 0 n (r .1) h);
+    }
+
+-- RECORDS
+
+-- a task's record that is not at fault, as far as a sheet goes
+pub record TaskOk (τ : Task) : Type 0 where
+  pub kind : τ .kind ≤ 1
+  pub deadline : Small (τ .deadline)
+  pub runs : 0 < lengthOf (τ .runs)
+  pub gaps : 0 < lengthOf (τ .gaps)
+
+not-unfit : (b : Bool) (n : ℕ) → cond b badRecord n ≡ 0 → b ≡ false
+not-unfit true n e = let z : ⊥ = omega arith in absurd z
+not-unfit false n e = refl
+
+some : (n : ℕ) → eqb n 0 ≡ false → 0 < n
+some zero e = let z : _≡_ {A = ℕ} 0 1 = cc in omega arith
+some (suc n) e = omega arith
+
+negated : (b : Bool) → not b ≡ false → b ≡ true
+negated true e = refl
+negated false e = cc
+
+record-ok : (τ : Task) → faultOf τ ≡ 0 → TaskOk τ
+unfolding faultOf unfit
+record-ok τ e =
+    let d = within 1 16 (τ .deadline) in let r = eqb (lengthOf (τ .runs)) 0 in let g = eqb (lengthOf (τ .gaps)) 0 in
+    let k = neither (ltb 1 (τ .kind)) (not d || (r || g)) (not-unfit _ _ e) in
+    let l = neither (not d) (r || g) (k .1) in
+    let m = neither r g (l .1) in
+    let w = within-both 1 16 (τ .deadline) (negated d (l .0)) in
+    record { kind = ltb-false 1 (τ .kind) (k .0); deadline = record { low = w .0; high = w .1 }; runs = some (lengthOf (τ .runs)) (m .0); gaps = some (lengthOf (τ .gaps)) (m .1) }
+
+blank-is : (τ : Task) → blank τ ≡ true → τ ≡ noTask
+unfolding blank
+blank-is τ e =
+    let a = both (eqb (τ .kind) 0) _ e in
+    let b = both (eqb (τ .deadline) 0) _ (a .1) in
+    let c = both (eqb (τ .runs) 0) (eqb (τ .gaps) 0) (b .1) in
+    λ i. record { kind = eqb-true (τ .kind) 0 (a .0) i; deadline = eqb-true (τ .deadline) 0 (b .0) i; runs = eqb-true (τ .runs) 0 (c .0) i; gaps = eqb-true (τ .gaps) 0 (c .1) i }
+
+module _ (s : Set) (p : Passed s) where
+  task-ok : (i : ℕ) → i < s .count → TaskOk (taskAt s i)
+  unfolding faultAt
+  task-ok i h =
+      record-ok (taskAt s i) (sym (ap (λ b. cond b (faultOf (taskAt s i)) (cond (blank (taskAt s i)) 0 badRecord)) (lt-ltb i (s .count) h)) ∙ p .records i (omega (arith, p .high)))
+
+  task-blank : (i : ℕ) → s .count ≤ i → i < 7 → taskAt s i ≡ noTask
+  unfolding faultAt
+  task-blank i h k =
+      blank-is (taskAt s i) (cond-none (blank (taskAt s i)) 2 (sym (ap (λ b. cond b (faultOf (taskAt s i)) (cond (blank (taskAt s i)) 0 badRecord)) (le-ltb i (s .count) h)) ∙ p .records i k))
+
+Each-from : {A : Type 0} (P : A → Type 0) (d : A) (xs : List A) → ((i : ℕ) → i < length xs → P (getD xs i d)) → Each P xs
+Each-from P d [] f = tt
+Each-from P d (x ∷ xs) f = (f 0 (omega arith), Each-from P d xs (λ i h. f (suc i) (omega arith)))
+
+-- NAMES
+
+pub characters-ok : (n : List ℕ) → Each (λ b. T (nameByte b)) (take (characters n) n)
+unfolding characters
+characters-ok [] = tt
+characters-ok (b ∷ n) = go (nameByte b) refl (characters-ok n)
+  where
+    go : (c : Bool) → nameByte b ≡ c → Each (λ b. T (nameByte b)) (take (characters n) n) → Each (λ b. T (nameByte b)) (take (cond c (suc (characters n)) 0) (b ∷ n))
+    go true e h = (subst T (sym e) tt, h)
+    go false e h = tt
+
+zeros-all : (l : List ℕ) → zeros l ≡ true → l ≡ replicate (length l) 0
+unfolding zeros
+zeros-all [] e = refl
+zeros-all (b ∷ l) e = let g = both (eqb b 0) (zeros l) e in ap₂ (λ x y. x ∷ y) (eqb-true b 0 (g .0)) (zeros-all l (g .1))
+
+-- THE SET: what of it a sheet shows, and zeros beyond
+
+pub record Valid (s : Set) : Type 0 where
+  pub name : NameOk (take (characters (s .name)) (s .name))
+  pub name-rest : s .name ≡ padded 16 0 (take (characters (s .name)) (s .name))
+  pub low : 1 ≤ s .count
+  pub high : s .count ≤ 7
+  pub count : length (take (s .count) (s .tasks)) ≡ s .count
+  pub tasks : Each TaskOk (take (s .count) (s .tasks))
+  pub rest : s .tasks ≡ padded 7 noTask (take (s .count) (s .tasks))
+
+pub valid : (s : Set) → Sized s → Passed s → Valid s
+unfolding padded goodName
+valid s z p =
+    let c = characters (s .name) in let n = s .count in
+    let g = both (ltb 0 c) (zeros (drop c (s .name))) (p .name) in
+    let lc : length (take c (s .name)) ≡ c = length-take-le c (s .name) (characters-le (s .name)) in
+    let ln : length (take n (s .tasks)) ≡ n = length-take-le n (s .tasks) (omega (arith, p .high, z .tasks)) in
+    let dc : length (drop c (s .name)) ≡ 16 - length (take c (s .name)) = omega (arith, length-drop c (s .name), z .name) in
+    let dn : length (drop n (s .tasks)) ≡ 7 - length (take n (s .tasks)) = omega (arith, length-drop n (s .tasks), z .tasks) in
+    record {
+      name = record { bytes = characters-ok (s .name); low = omega (arith, ltb-true 0 c (g .0)); high = omega (arith, characters-le (s .name), z .name) };
+      name-rest = sym (take-append-drop c (s .name)) ∙ ap (λ l. take c (s .name) ++ l) (zeros-all (drop c (s .name)) (g .1) ∙ ap (λ k. replicate k 0) dc);
+      low = p .low;
+      high = p .high;
+      count = ln;
+      tasks = Each-from TaskOk noTask (take n (s .tasks)) (λ i h. subst TaskOk (sym (getD-take n (s .tasks) i noTask (omega arith))) (task-ok s p i (omega arith)));
+      rest = sym (take-append-drop n (s .tasks)) ∙ ap (λ l. take n (s .tasks) ++ l) (ext-getD noTask (drop n (s .tasks)) (replicate (7 - length (take n (s .tasks))) noTask) (dn ∙ sym (length-replicate _ noTask))
+          (λ i h. getD-drop n (s .tasks) i noTask ∙ task-blank s p (n + i) (omega arith) (omega (arith, length-drop n (s .tasks), z .tasks)) ∙ sym (getD-replicate (7 - length (take n (s .tasks))) i noTask noTask (omega arith))));
+    }
