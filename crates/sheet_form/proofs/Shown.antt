@@ -101,8 +101,8 @@ name-reads n b o =
     (λ c. by-cond R (ltb (length n) 16)
     (λ l. inr ((Each-snoc _ n b (o .0) c, omega (arith, length-append n (b ∷ []), ltb→lt (length n) 16 l)), refl))
     (λ l. inl refl))
-    (λ c. by-cond R (eqb b 10 && ltb 0 (length n))
-    (λ l. inr ((record { bytes = o .0; low = ltb→lt 0 (length n) (and-right (eqb b 10) _ l); high = o .1 }, tt, omega arith), append-nil (setText ++ n ++ (10 ∷ [])) ∙ at-byte (setText ++ n) b 10 (and-left (eqb b 10) _ l)))
+    (λ c. by-cond R (ltb 0 (length n) && eqb b 10)
+    (λ l. inr ((record { bytes = o .0; low = ltb→lt 0 (length n) (and-left (ltb 0 (length n)) _ l); high = o .1 }, tt, omega arith), append-nil (setText ++ n ++ (10 ∷ [])) ∙ at-byte (setText ++ n) b 10 (and-right (ltb 0 (length n)) _ l)))
     (λ l. inl refl))
   where
     R : State → Type 0

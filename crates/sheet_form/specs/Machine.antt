@@ -64,7 +64,7 @@ unfoldable pub step : State → ℕ → State
 step (word w k) b = cond (eqb b (getD (spell w) k 0)) (cond (ltb (suc k) (length (spell w))) (word w (suc k)) (after w)) fault
 step (name n) b =
     cond (nameByte b) (cond (ltb (length n) 16) (name (n ++ (b ∷ []))) fault)
-    (cond (eqb b 10 && ltb 0 (length n)) (line (record { name = n; lines = [] })) fault)
+    (cond (ltb 0 (length n) && eqb b 10) (line (record { name = n; lines = [] })) fault)
 step (line s) b =
     cond (ltb (length (s .lines)) 7) (cond (eqb b 104) (word (kind s true) 1) (cond (eqb b 115) (word (kind s false) 1) fault)) fault
 step (field f xs v) b =
