@@ -14,6 +14,7 @@ use Rattle.tasks.specs.Sets.{testSet}
 use Rattle.sheet_form.specs.Form.{Form, fits, stops}
 use Rattle.sheet_form.specs.Sets.{setOf, noSet}
 use Rattle.sheet_form.proofs.Places.{form}
+use Rattle.sheet_reader.specs.declared.ReadAnswer.{ReadAnswer}
 use Rattle.sheet_reader.specs.declared.SheetRead.{SheetRead}
 use Rattle.sheet_reader.specs.declared.ReadAnswer.the-variants.{Taken, Refused}
 
@@ -59,12 +60,9 @@ abbrev pub setValues : Set → List ℕ
 setValues s = s .name ++ (s .count ∷ taskValues (s .tasks))
 
 -- the answer in the paper's terms
-abbrev pub saidBeside : Refusal → List ℕ → Said
-saidBeside f vs = record { number = f .number; place = f .place; values = vs }
+abbrev pub saidAnswer : ReadAnswer → List ℕ → Said
+saidAnswer Taken vs = answered vs
+saidAnswer (Refused f) vs = record { number = f .number; place = f .place; values = vs }
 
 abbrev pub saidRead : SheetRead → Said
-saidRead r = said (r .answer)
-  where
-    said : _ → Said
-    said Taken = answered (setValues (r .set))
-    said (Refused f) = saidBeside f (setValues (r .set))
+saidRead r = saidAnswer (r .answer) (setValues (r .set))

@@ -1,4 +1,5 @@
 // The reader of sheets, over a text and a place of it.
+use sheet_fields::state;
 use sheet_scan::scan;
 use tasks::refusals;
 use tasks::refusals::Refusal;
@@ -30,17 +31,7 @@ pub struct SheetRead {
 fn refused(f: Refusal) -> SheetRead
     ensures { λ r. ⌜ r ≡ refusedWith f ⌝ }
 {
-    let t = Task {
-        kind: 0,
-        deadline: 0,
-        runs: 0,
-        gaps: 0,
-    };
-    let set = Set {
-        name: [0u8; 16],
-        count: 0,
-        tasks: [t; 7],
-    };
+    let set = state::no_set();
     SheetRead {
         answer: ReadAnswer::Refused(f),
         set: set,

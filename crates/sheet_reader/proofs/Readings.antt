@@ -1,0 +1,83 @@
+-- Reading, by what one pass over the text finds. Assumes nothing.
+use mathlib.Core.Path.{_≡_, refl, sym, ap, _∙_}
+use mathlib.Core.Bool.{true, false, cond}
+use mathlib.Core.List.{List}
+use Prim.Native.Nat.{ℕ, _≤_, _<_}
+use native.Mathlib.Nat.{le-refl}
+use lib.Dec.{ltb}
+use lib.ListN.{length}
+use borrow.Author.Tests.{lt-ltb, le-ltb}
+use Rattle.tasks.specs.declared.refusals.Refusal.{Refusal}
+use Rattle.tasks.specs.declared.sets.Tested.{Tested}
+use Rattle.tasks.specs.Refusals.{refusing, sheetTooLong, sheetForm}
+use Rattle.tasks.specs.Sets.{testSet}
+use Rattle.sheet_form.specs.Form.{Form, fits, stops}
+use Rattle.sheet_form.specs.Sets.{setOf}
+use Rattle.sheet_form.proofs.Places.{one-fault, fault-no-member, one-sheet, form}
+use Rattle.sheet_scan.specs.declared.Scanned.{Scanned}
+use Rattle.sheet_scan.specs.Scan.{scanOf, scanText}
+use Rattle.sheet_reader.specs.declared.SheetRead.{SheetRead}
+use Rattle.sheet_reader.specs.Reading.{longest, refusedWith, testedRead, formRead, readOf, readText, formReach, reachText, saidRead}
+
+-- whatever shows a text to be a sheet's, or to stop at a place, gives the one answer
+one-read : (t : List ℕ) (f g : Form t) → formRead t f ≡ formRead t g
+one-read t (fits m) (fits n) = ap (λ s. testedRead (setOf s) (testSet (setOf s))) (one-sheet t m n)
+one-read t (fits m) (stops p e) = absurd (fault-no-member t p e m)
+one-read t (stops p e) (fits m) = absurd (fault-no-member t p e m)
+one-read t (stops p e) (stops q f) = ap (λ n. refusedWith (record { number = sheetForm; place = n })) (one-fault t p q e f)
+
+pub read-by : (t : List ℕ) (f : Form t) → readText t ≡ readOf t f
+unfolding readText
+read-by t f = ap (cond (ltb longest (length t)) (refusedWith (record { number = sheetTooLong; place = 0 }))) (one-read t (form t) f)
+
+-- a refusal has zeros beside it
+pub refused-zeros : (f : Refusal) → saidRead (refusedWith f) ≡ refusing 45 f
+refused-zeros f = refl
+
+-- BY THE PASS
+
+pub read-long : (t : List ℕ) → longest < length t → readText t ≡ refusedWith (record { number = sheetTooLong; place = 0 })
+unfolding readText
+read-long t h = ap (λ b. cond b (refusedWith (record { number = sheetTooLong; place = 0 })) (formRead t (form t))) (lt-ltb longest (length t) h)
+
+-- what the pass finds, answered
+abbrev scanRead : Scanned → SheetRead
+scanRead s = cond (s .whole) (testedRead (s .set) (testSet (s .set))) (refusedWith (record { number = sheetForm; place = s .reach }))
+
+read-scan : (t : List ℕ) → length t ≤ longest → readText t ≡ scanRead (scanText t)
+unfolding readText scanText
+read-scan t h = ap (λ b. cond b (refusedWith (record { number = sheetTooLong; place = 0 })) (formRead t (form t))) (le-ltb longest (length t) h) ∙ go (form t)
+  where
+    go : (f : Form t) → formRead t f ≡ scanRead (scanOf t f)
+    go (fits m) = refl
+    go (stops p e) = refl
+
+module _ (t : List ℕ) (s : Scanned) (h : length t ≤ longest) (e : s ≡ scanText t) where
+  by-pass : readText t ≡ scanRead s
+  by-pass = read-scan t h ∙ ap scanRead (sym e)
+
+  pub read-faulty : s .whole ≡ false → readText t ≡ refusedWith (record { number = sheetForm; place = s .reach })
+  read-faulty w = by-pass ∙ ap (λ b. cond b (testedRead (s .set) (testSet (s .set))) (refusedWith (record { number = sheetForm; place = s .reach }))) w
+
+  pub read-tested : s .whole ≡ true → (r : Tested) → testSet (s .set) ≡ r → readText t ≡ testedRead (s .set) r
+  read-tested w r q = by-pass ∙ ap (λ b. cond b (testedRead (s .set) (testSet (s .set))) (refusedWith (record { number = sheetForm; place = s .reach }))) w ∙ ap (testedRead (s .set)) q
+
+pub scan-within : (t : List ℕ) → scanText t .reach ≤ length t
+unfolding scanText
+scan-within t = go (form t)
+  where
+    go : (f : Form t) → scanOf t f .reach ≤ length t
+    go (fits m) = le-refl (length t)
+    go (stops p e) = e .within
+
+pub reach-long : (t : List ℕ) → longest < length t → reachText t ≡ 0
+unfolding reachText
+reach-long t h = ap (λ b. cond b 0 (formReach t (form t))) (lt-ltb longest (length t) h)
+
+pub reach-scan : (t : List ℕ) → length t ≤ longest → reachText t ≡ scanText t .reach
+unfolding reachText scanText
+reach-scan t h = ap (λ b. cond b 0 (formReach t (form t))) (le-ltb longest (length t) h) ∙ go (form t)
+  where
+    go : (f : Form t) → formReach t f ≡ scanOf t f .reach
+    go (fits m) = refl
+    go (stops p e) = refl
