@@ -17,7 +17,7 @@ use Rattle.sheet_form.specs.Form.{Values, each, Each, space, lf, decimal
 use Rattle.sheet_form.specs.Sets.{lastApart, lineOf, textOf}
 use Rattle.sheet_form.proofs.Tests.{by-cond}
 use Rattle.sheet_form.proofs.Bits.{apart-snoc}
-use Rattle.sheet_form.proofs.Valid.{TaskOk, Valid}
+use Rattle.sheet_form.specs.Valid.{TaskOk, Valid}
 
 pub decimal-length : (v : ℕ) → length (decimal v) ≤ 2
 unfolding decimal

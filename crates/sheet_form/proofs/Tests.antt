@@ -3,8 +3,9 @@ use mathlib.Core.Path.{_≡_, refl, sym, ap, _∙_}
 use mathlib.Core.Logic.{_⊎_, inl, inr}
 use mathlib.Core.Bool.{Bool, true, false, not, _&&_, cond}
 use mathlib.Core.List.{List, [], _∷_, _++_, map, append-assoc, append-nil}
-use Prim.Native.Nat.{ℕ, _≤_, _<_}
+use Prim.Native.Nat.{ℕ, zero, suc, _≤_, _<_}
 use lib.Dec.{T, ltb}
+use lib.ListN.{take}
 use borrow.Author.Tests.{ltb-true, ltb-false}
 use Rattle.sheet_form.specs.Form.{each, Each}
 
@@ -48,3 +49,8 @@ module _ {A : Type 0} where
 pub map-snoc : {A B : Type 0} (f : A → B) (xs : List A) (x : A) → map f (xs ++ (x ∷ [])) ≡ map f xs ++ (f x ∷ [])
 map-snoc f [] x = refl
 map-snoc f (y ∷ xs) x = ap (λ l. f y ∷ l) (map-snoc f xs x)
+
+pub Each-take : {A : Type 0} (P : A → Type 0) (n : ℕ) (xs : List A) → Each P xs → Each P (take n xs)
+Each-take P zero xs h = tt
+Each-take P (suc n) [] h = tt
+Each-take P (suc n) (x ∷ xs) h = (h .0, Each-take P n xs (h .1))

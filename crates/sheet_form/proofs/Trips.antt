@@ -12,9 +12,9 @@ use Rattle.tasks.specs.declared.sets.Set.{Set}
 use Rattle.tasks.specs.Sets.{nameByte, characters, noTask}
 use Rattle.sheet_form.specs.Form.{Line, Sheet, Each, LineOk, Formed}
 use Rattle.sheet_form.specs.Sets.{rising, kindOf, taskOf, padded, setOf, lineOf, sheetOf, Sized}
-use Rattle.sheet_form.proofs.Tests.{so}
+use Rattle.sheet_form.proofs.Tests.{so, Each-take}
 use Rattle.sheet_form.proofs.Bits.{list-back, bits-said}
-use Rattle.sheet_form.proofs.Valid.{TaskOk, Valid}
+use Rattle.sheet_form.specs.Valid.{TaskOk, Valid}
 
 pub record LineRises (l : Line) : Type 0 where
   pub runs : T (rising (l .runs))
@@ -77,11 +77,6 @@ task-back τ h w =
 tasks-back : (ts : List Task) → Each TaskOk ts → Each Wide ts → map taskOf (map lineOf ts) ≡ ts
 tasks-back [] h w = refl
 tasks-back (τ ∷ ts) h w = ap₂ (λ x y. x ∷ y) (task-back τ (h .0) (w .0)) (tasks-back ts (h .1) (w .1))
-
-Each-take : {A : Type 0} (P : A → Type 0) (n : ℕ) (xs : List A) → Each P xs → Each P (take n xs)
-Each-take P zero xs h = tt
-Each-take P (suc n) [] h = tt
-Each-take P (suc n) (x ∷ xs) h = (h .0, Each-take P n xs (h .1))
 
 line-count : (s : Set) → Valid s → length (sheetOf s .lines) ≡ s .count
 line-count s v = length-map (take (s .count) (s .tasks)) lineOf ∙ v .count

@@ -16,8 +16,9 @@ use Rattle.tasks.specs.Lists.{lengthOf}
 use Rattle.tasks.specs.Refusals.{badRecord}
 use Rattle.tasks.specs.Sets.{within, nameByte, characters, zeros, goodName, noTask, blank, unfit, faultOf, taskAt, faultAt, refuseOr, lowestFault, testStates, testSet}
 use Rattle.tasks.proofs.SetLaws.{within-both, characters-le}
-use Rattle.sheet_form.specs.Form.{Each, Small, NameOk}
-use Rattle.sheet_form.specs.Sets.{padded, Sized}
+use Rattle.sheet_form.specs.Form.{Each}
+use Rattle.sheet_form.specs.Sets.{padded}
+use Rattle.sheet_form.specs.Valid.{TaskOk, Valid}
 
 -- what passes is not refused
 refuse-none : (n p : ℕ) (t : Tested) (k : ℕ) → refuseOr n p t ≡ States k → (n ≡ 0) × (t ≡ States k)
@@ -66,13 +67,6 @@ passed s n e =
     }
 
 -- RECORDS
-
--- a task's record that is not at fault, as far as a sheet goes
-pub record TaskOk (τ : Task) : Type 0 where
-  pub kind : τ .kind ≤ 1
-  pub deadline : Small (τ .deadline)
-  pub runs : 0 < lengthOf (τ .runs)
-  pub gaps : 0 < lengthOf (τ .gaps)
 
 not-unfit : (b : Bool) (n : ℕ) → cond b badRecord n ≡ 0 → b ≡ false
 not-unfit true n e = let z : ⊥ = omega arith in absurd z
@@ -135,33 +129,24 @@ unfolding zeros
 zeros-all [] e = refl
 zeros-all (b ∷ l) e = let g = both (eqb b 0) (zeros l) e in ap₂ (λ x y. x ∷ y) (eqb-true b 0 (g .0)) (zeros-all l (g .1))
 
--- THE SET: what of it a sheet shows, and zeros beyond
+-- THE SET
 
-pub record Valid (s : Set) : Type 0 where
-  pub name : NameOk (take (characters (s .name)) (s .name))
-  pub name-rest : s .name ≡ padded 16 0 (take (characters (s .name)) (s .name))
-  pub low : 1 ≤ s .count
-  pub high : s .count ≤ 7
-  pub count : length (take (s .count) (s .tasks)) ≡ s .count
-  pub tasks : Each TaskOk (take (s .count) (s .tasks))
-  pub rest : s .tasks ≡ padded 7 noTask (take (s .count) (s .tasks))
-
-pub valid : (s : Set) → Sized s → Passed s → Valid s
+pub valid : (s : Set) → length (s .name) ≡ 16 → length (s .tasks) ≡ 7 → Passed s → Valid s
 unfolding padded goodName
-valid s z p =
+valid s l16 l7 p =
     let c = characters (s .name) in let n = s .count in
     let g = both (ltb 0 c) (zeros (drop c (s .name))) (p .name) in
     let lc : length (take c (s .name)) ≡ c = length-take-le c (s .name) (characters-le (s .name)) in
-    let ln : length (take n (s .tasks)) ≡ n = length-take-le n (s .tasks) (omega (arith, p .high, z .tasks)) in
-    let dc : length (drop c (s .name)) ≡ 16 - length (take c (s .name)) = omega (arith, length-drop c (s .name), z .name) in
-    let dn : length (drop n (s .tasks)) ≡ 7 - length (take n (s .tasks)) = omega (arith, length-drop n (s .tasks), z .tasks) in
+    let ln : length (take n (s .tasks)) ≡ n = length-take-le n (s .tasks) (omega (arith, p .high, l7)) in
+    let dc : length (drop c (s .name)) ≡ 16 - length (take c (s .name)) = omega (arith, length-drop c (s .name), l16) in
+    let dn : length (drop n (s .tasks)) ≡ 7 - length (take n (s .tasks)) = omega (arith, length-drop n (s .tasks), l7) in
     record {
-      name = record { bytes = characters-ok (s .name); low = omega (arith, ltb-true 0 c (g .0)); high = omega (arith, characters-le (s .name), z .name) };
+      name = record { bytes = characters-ok (s .name); low = omega (arith, ltb-true 0 c (g .0)); high = omega (arith, characters-le (s .name), l16) };
       name-rest = sym (take-append-drop c (s .name)) ∙ ap (λ l. take c (s .name) ++ l) (zeros-all (drop c (s .name)) (g .1) ∙ ap (λ k. replicate k 0) dc);
       low = p .low;
       high = p .high;
       count = ln;
       tasks = Each-from TaskOk noTask (take n (s .tasks)) (λ i h. subst TaskOk (sym (getD-take n (s .tasks) i noTask (omega arith))) (task-ok s p i (omega arith)));
       rest = sym (take-append-drop n (s .tasks)) ∙ ap (λ l. take n (s .tasks) ++ l) (ext-getD noTask (drop n (s .tasks)) (replicate (7 - length (take n (s .tasks))) noTask) (dn ∙ sym (length-replicate _ noTask))
-          (λ i h. getD-drop n (s .tasks) i noTask ∙ task-blank s p (n + i) (omega arith) (omega (arith, length-drop n (s .tasks), z .tasks)) ∙ sym (getD-replicate (7 - length (take n (s .tasks))) i noTask noTask (omega arith))));
+          (λ i h. getD-drop n (s .tasks) i noTask ∙ task-blank s p (n + i) (omega arith) (omega (arith, length-drop n (s .tasks), l7)) ∙ sym (getD-replicate (7 - length (take n (s .tasks))) i noTask noTask (omega arith))));
     }
