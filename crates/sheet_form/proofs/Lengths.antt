@@ -11,12 +11,14 @@ use lib.Pow.{shr-shr}
 use Rattle.tasks.specs.declared.sets.Task.{Task}
 use Rattle.tasks.specs.declared.sets.Set.{Set}
 use Rattle.tasks.specs.Lists.{values, valuesOf, here, lastOr, longestOf, lengthOf}
-use Rattle.tasks.specs.Sets.{characters}
+use Rattle.tasks.specs.declared.sets.Tested.the-variants.{States}
+use Rattle.tasks.specs.Sets.{characters, testSet}
 use Rattle.tasks.proofs.ListLaws.{longest-le}
 use Rattle.sheet_form.specs.Form.{Values, each, Each, space, lf, decimal, withComma, valuesText, kindText, lineText, setText}
-use Rattle.sheet_form.specs.Sets.{lastApart, lineOf, textOf}
+use Rattle.sheet_form.specs.Sets.{lastApart, lineOf, textOf, Sized}
 use Rattle.sheet_form.proofs.Tests.{by-cond}
 use Rattle.sheet_form.proofs.Bits.{apart-snoc}
+use Rattle.sheet_form.proofs.Valid.{passed, valid}
 use Rattle.sheet_form.specs.Valid.{TaskOk, Valid}
 
 pub decimal-length : (v : ℕ) → length (decimal v) ≤ 2
@@ -122,3 +124,6 @@ sheet-short s v =
     let n = take (characters (s .name)) (s .name) in
     let ts = take (s .count) (s .tasks) in
     omega (arith, length-append (setText ++ n ++ lf) (each lineText (map lineOf ts)), head-length n, v .name .high, lines-length ts (v .tasks), v .count, v .high)
+
+pub tested-short : (s : Set) (k : ℕ) → Sized s → testSet s ≡ States k → length (textOf s) ≤ 1024
+tested-short s k z e = sheet-short s (valid s (z .name) (z .tasks) (passed s k e))

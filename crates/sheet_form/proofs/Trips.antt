@@ -1,19 +1,21 @@
 -- A set and its sheet say the same, both ways. Assumes nothing.
-use mathlib.Core.Path.{_≡_, refl, sym, ap, ap₂, _∙_}
+use mathlib.Core.Path.{_≡_, refl, sym, ap, ap₂, _∙_, subst}
 use mathlib.Core.Bool.{Bool, true, false, cond}
 use mathlib.Core.List.{List, [], _∷_, _++_, map}
-use Prim.Native.Nat.{ℕ, zero, suc, _-_, _≤_, _<_}
+use Prim.Native.Nat.{ℕ, zero, suc, _+_, _-_, _≤_, _<_}
 use native.Mathlib.Omega.{arith}
 use lib.Dec.{T, eqb}
-use lib.ListN.{length, take, replicate, length-map}
+use lib.ListN.{length, take, replicate, length-append, length-replicate, length-map}
 use lib.Seq.{take-at}
 use Rattle.tasks.specs.declared.sets.Task.{Task}
 use Rattle.tasks.specs.declared.sets.Set.{Set}
+use Rattle.tasks.specs.Lists.{values, lengthOf}
 use Rattle.tasks.specs.Sets.{nameByte, characters, noTask}
-use Rattle.sheet_form.specs.Form.{Line, Sheet, Each, LineOk, Formed}
-use Rattle.sheet_form.specs.Sets.{rising, kindOf, taskOf, padded, setOf, lineOf, sheetOf, Sized}
+use Rattle.sheet_form.specs.Form.{Values, Line, Sheet, Each, LineOk, Formed, sheetText}
+use Rattle.sheet_form.specs.Sets.{numbers, rising, bits, listOf, kindOf, taskOf, padded, setOf, lineOf, sheetOf, textOf, Sized}
 use Rattle.sheet_form.proofs.Tests.{so, Each-take}
 use Rattle.sheet_form.proofs.Bits.{list-back, bits-said}
+use Rattle.sheet_form.proofs.Valid.{Passed, valid}
 use Rattle.sheet_form.specs.Valid.{TaskOk, Valid}
 
 pub record LineRises (l : Line) : Type 0 where
@@ -54,6 +56,32 @@ sheet-back s h r =
       name = (ap (λ n. take n (s .name ++ z)) (characters-back (s .name) z (h .name .bytes) (none-of-zeros (16 - length (s .name)))) ∙ take-at (s .name) z (length (s .name)) refl) i;
       lines = (ap (map lineOf) (take-at (map taskOf (s .lines)) (replicate (7 - length (map taskOf (s .lines))) noTask) (length (s .lines)) (length-map (s .lines) taskOf)) ∙ lines-back (s .lines) (h .lines) r) i;
     }
+
+-- a list that is kept rises: one that does not is kept as an empty one
+kept-rises : (l : Values) → 0 < lengthOf (listOf l) → T (rising l)
+unfolding listOf lengthOf values
+kept-rises l = go (rising l)
+  where
+    go : (b : Bool) → 0 < lengthOf (cond b (bits (numbers l)) 0) → T b
+    go true h = tt
+    go false h = let z : ⊥ = omega arith in absurd z
+
+lines-rise : (ls : List Line) → Each TaskOk (map taskOf ls) → Each LineRises ls
+lines-rise [] h = tt
+lines-rise (l ∷ ls) h = (record { runs = kept-rises (l .runs) (h .0 .runs); gaps = kept-rises (l .gaps) (h .0 .gaps) }, lines-rise ls (h .1))
+
+padded-length : {A : Type 0} (n : ℕ) (d : A) (xs : List A) → length xs ≤ n → length (padded n d xs) ≡ n
+unfolding padded
+padded-length n d xs h = omega (arith, length-append xs (replicate (n - length xs) d), length-replicate (n - length xs) d)
+
+-- a sheet whose set passes the test is the one that the set has
+pub text-back : (s : Sheet) → Formed s → Passed (setOf s) → textOf (setOf s) ≡ sheetText s
+unfolding padded
+text-back s h p =
+    let e = length-map (s .lines) taskOf in
+    let v = valid (setOf s) (padded-length 16 0 (s .name) (h .name .high)) (padded-length 7 noTask (map taskOf (s .lines)) (omega (arith, h .high))) p in
+    let k : take (length (s .lines)) (padded 7 noTask (map taskOf (s .lines))) ≡ map taskOf (s .lines) = take-at (map taskOf (s .lines)) (replicate (7 - length (map taskOf (s .lines))) noTask) (length (s .lines)) e in
+    ap sheetText (sheet-back s h (lines-rise (s .lines) (subst (Each TaskOk) k (v .tasks))))
 
 -- FROM A VALID SET TO ITS SHEET AND BACK
 
