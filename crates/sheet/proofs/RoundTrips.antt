@@ -11,7 +11,7 @@ use borrow.Author.Tests.{le-ltb}
 use Rattle.tasks.specs.declared.sets.Set.{Set}
 use Rattle.tasks.specs.declared.sets.Tested.{Tested}
 use Rattle.tasks.specs.declared.sets.Tested.the-variants.{States, Refused as FailedWith}
-use Rattle.tasks.specs.Refusals.{sheetTooLong, bufferTooShort}
+use Rattle.tasks.specs.Refusals.{bufferTooShort}
 use Rattle.tasks.specs.Sets.{testSet}
 use Rattle.sheet_form.specs.Form.{Form, fits, stops, Member}
 use Rattle.sheet_form.specs.Sets.{setOf, sheetOf, textOf, Sized}
@@ -21,7 +21,7 @@ use Rattle.sheet_form.proofs.Trips.{text-back, sheet-formed, set-back}
 use Rattle.sheet_form.proofs.Lengths.{sheet-short}
 use Rattle.sheet_reader.specs.declared.SheetRead.{SheetRead}
 use Rattle.sheet_reader.specs.declared.ReadAnswer.the-variants.{Taken, Refused as ReadRefused}
-use Rattle.sheet_reader.specs.Reading.{longest, refusedWith, testedRead, formRead, readText}
+use Rattle.sheet_reader.specs.Reading.{longest, longRead, testedRead, formRead, readText}
 use Rattle.sheet_reader.proofs.Readings.{read-by}
 use Rattle.sheet_writer.specs.declared.Wrote.the-variants.{Length, Refused}
 use Rattle.sheet_writer.specs.Writing.{Written, leaving, placed, testedWrite, writeOf}
@@ -38,7 +38,7 @@ sheet-reads s k z e =
     let v = valid s (z .name) (z .tasks) (passed s k e) in
     let m : Member (textOf s) = record { sheet = sheetOf s; formed = sheet-formed s v; text = refl } in
     read-by (textOf s) (fits m)
-    ∙ ap (λ b. cond b (refusedWith (record { number = sheetTooLong; place = 0 })) (formRead (textOf s) (fits m))) (le-ltb longest (length (textOf s)) (sheet-short s v))
+    ∙ ap (λ b. cond b longRead (formRead (textOf s) (fits m))) (le-ltb longest (length (textOf s)) (sheet-short s v))
     ∙ ap (λ x. testedRead x (testSet x)) (set-back s z v) ∙ ap (testedRead s) e
 
 -- where the writer answers a length, the set passes its test and that many bytes are its sheet
@@ -74,7 +74,7 @@ tested-back t m (States k) e q f g b =
     ∙ ap (λ x. placed x b) (text-back (m .sheet) (m .formed) (passed (setOf (m .sheet)) k e) ∙ m .text)
 tested-back t m (FailedWith x) e q f g b = let h : ReadRefused x ≡ Taken = sym (ap (λ (x : SheetRead). x .answer) f) ∙ g in cc
 
-form-back : (t : List ℕ) (f : Form t) (c : Bool) (q : SheetRead) → q ≡ cond c (refusedWith (record { number = sheetTooLong; place = 0 })) (formRead t f) → q .answer ≡ Taken → (b : List ℕ) → writeOf (q .set) b ≡ placed t b
+form-back : (t : List ℕ) (f : Form t) (c : Bool) (q : SheetRead) → q ≡ cond c longRead (formRead t f) → q .answer ≡ Taken → (b : List ℕ) → writeOf (q .set) b ≡ placed t b
 form-back t f true q e g b = let h = sym (ap (λ (x : SheetRead). x .answer) e) ∙ g in cc
 form-back t (stops p x) false q e g b = let h = sym (ap (λ (x : SheetRead). x .answer) e) ∙ g in cc
 form-back t (fits m) false q e g b = tested-back t m (testSet (setOf (m .sheet))) refl q e g b

@@ -87,7 +87,7 @@ all-small l h = Each-snoc Small (l .firsts) (l .final) (h .firsts) (h .final)
 pub list-says : (l : Values) → ValuesOk l → T (rising l) → valuesOf (listOf l) ≡ numbers l
 unfolding listOf
 list-says l h t =
-    ap (λ b. valuesOf (cond b (bits (numbers l)) 0)) (so (rising l) t) ∙ ap valuesOf (all-bits (numbers l)) ∙ values-bits 16 0 (numbers l) t (most (numbers l) (all-small l h))
+    rw (so (rising l) t) (ap valuesOf (all-bits (numbers l)) ∙ values-bits 16 0 (numbers l) t (most (numbers l) (all-small l h)))
   where
     most : (xs : List ℕ) → Each Small xs → Each (λ x. x ≤ 16) xs
     most [] e = tt
@@ -164,5 +164,5 @@ bits-said m p =
     record {
       ok = parts-small (l .firsts) (l .final) (subst (Each Small) (sym w) (values-small 16 1 m (omega arith) (omega arith)));
       rises = r;
-      kept = λ h. ap (λ b. cond b (bits (numbers l)) 0) (so (rising l) r) ∙ ap bits w ∙ bits-of-values 16 0 m h ∙ mul-one m;
+      kept = λ h. rw (so (rising l) r) (ap bits w ∙ bits-of-values 16 0 m h ∙ mul-one m);
     }

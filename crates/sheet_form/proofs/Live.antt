@@ -16,7 +16,7 @@ pub back : {t : List ℕ} (u w : List ℕ) → t ≡ u ++ w → Begins t → Beg
 back u w e g = record { rest = w ++ g .rest; member = subst Member (ap (λ x. x ++ g .rest) e ∙ append-assoc u w (g .rest)) (g .member) }
 
 full : (s : Sheet) → Ok (line s) → 1 ≤ length (s .lines) → Begins (sheetText s)
-full s o h = record { rest = []; member = record { sheet = s; formed = record { name = o .0; lines = o .1; low = h; high = o .2 }; text = sym (append-nil (sheetText s)) } }
+full s o h = record { rest = []; member = record { sheet = s; formed = record { name = o .0; lines = o .1; low = h; high = omega (arith, o .2) }; text = sym (append-nil (sheetText s)) } }
 
 full-add : (s : Sheet) (l : Line) → Ok (line (add s l)) → Begins (sheetText (add s l))
 full-add s l o = full (add s l) o (omega (arith, length-append (s .lines) (l ∷ [])))

@@ -120,7 +120,7 @@ accepted-at : (t : List ℕ) (s : State) → Ok s → shown s ≡ t → T (accep
 accepted-at t (word w k) o e h = absurd h
 accepted-at t (name n) o e h = absurd h
 accepted-at t (line s) o e h =
-    record { member = record { sheet = s; formed = record { name = o .0; lines = o .1; low = ltb→lt 0 (length (s .lines)) h; high = o .2 }; text = e }; ends = refl }
+    record { member = record { sheet = s; formed = record { name = o .0; lines = o .1; low = ltb→lt 0 (length (s .lines)) h; high = omega (arith, o .2) }; text = e }; ends = refl }
 accepted-at t (field f xs v) o e h = absurd h
 accepted-at t fault o e h = absurd h
 

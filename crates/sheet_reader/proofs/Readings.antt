@@ -9,7 +9,7 @@ use lib.ListN.{length}
 use borrow.Author.Tests.{lt-ltb, le-ltb}
 use Rattle.tasks.specs.declared.refusals.Refusal.{Refusal}
 use Rattle.tasks.specs.declared.sets.Tested.{Tested}
-use Rattle.tasks.specs.Refusals.{refusing, sheetTooLong, sheetForm}
+use Rattle.tasks.specs.Refusals.{refusing}
 use Rattle.tasks.specs.Sets.{testSet}
 use Rattle.sheet_form.specs.Form.{Form, fits, stops}
 use Rattle.sheet_form.specs.Sets.{setOf}
@@ -17,18 +17,18 @@ use Rattle.sheet_form.proofs.Places.{one-fault, fault-no-member, one-sheet, for
 use Rattle.sheet_scan.specs.declared.Scanned.{Scanned}
 use Rattle.sheet_scan.specs.Scan.{scanOf, scanText}
 use Rattle.sheet_reader.specs.declared.SheetRead.{SheetRead}
-use Rattle.sheet_reader.specs.Reading.{longest, refusedWith, testedRead, formRead, readOf, readText, formReach, reachText, saidRead}
+use Rattle.sheet_reader.specs.Reading.{longest, refusedWith, longRead, faultRead, testedRead, formRead, readOf, readText, formReach, reachText, saidRead}
 
 -- whatever shows a text to be a sheet's, or to stop at a place, gives the one answer
 one-read : (t : List ℕ) (f g : Form t) → formRead t f ≡ formRead t g
 one-read t (fits m) (fits n) = ap (λ s. testedRead (setOf s) (testSet (setOf s))) (one-sheet t m n)
 one-read t (fits m) (stops p e) = absurd (fault-no-member t p e m)
 one-read t (stops p e) (fits m) = absurd (fault-no-member t p e m)
-one-read t (stops p e) (stops q f) = ap (λ n. refusedWith (record { number = sheetForm; place = n })) (one-fault t p q e f)
+one-read t (stops p e) (stops q f) = ap faultRead (one-fault t p q e f)
 
 pub read-by : (t : List ℕ) (f : Form t) → readText t ≡ readOf t f
 unfolding readText
-read-by t f = ap (cond (ltb longest (length t)) (refusedWith (record { number = sheetTooLong; place = 0 }))) (one-read t (form t) f)
+read-by t f = ap (cond (ltb longest (length t)) longRead) (one-read t (form t) f)
 
 -- a refusal has zeros beside it
 pub refused-zeros : (f : Refusal) → saidRead (refusedWith f) ≡ refusing 45 f
@@ -36,17 +36,17 @@ refused-zeros f = refl
 
 -- BY THE PASS
 
-pub read-long : (t : List ℕ) → longest < length t → readText t ≡ refusedWith (record { number = sheetTooLong; place = 0 })
+pub read-long : (t : List ℕ) → longest < length t → readText t ≡ longRead
 unfolding readText
-read-long t h = ap (λ b. cond b (refusedWith (record { number = sheetTooLong; place = 0 })) (formRead t (form t))) (lt-ltb longest (length t) h)
+read-long t h = ap (λ b. cond b longRead (formRead t (form t))) (lt-ltb longest (length t) h)
 
 -- what the pass finds, answered
 abbrev scanRead : Scanned → SheetRead
-scanRead s = cond (s .whole) (testedRead (s .set) (testSet (s .set))) (refusedWith (record { number = sheetForm; place = s .reach }))
+scanRead s = cond (s .whole) (testedRead (s .set) (testSet (s .set))) (faultRead (s .reach))
 
 read-scan : (t : List ℕ) → length t ≤ longest → readText t ≡ scanRead (scanText t)
 unfolding readText scanText
-read-scan t h = ap (λ b. cond b (refusedWith (record { number = sheetTooLong; place = 0 })) (formRead t (form t))) (le-ltb longest (length t) h) ∙ go (form t)
+read-scan t h = ap (λ b. cond b longRead (formRead t (form t))) (le-ltb longest (length t) h) ∙ go (form t)
   where
     go : (f : Form t) → formRead t f ≡ scanRead (scanOf t f)
     go (fits m) = refl
@@ -56,11 +56,11 @@ module _ (t : List ℕ) (s : Scanned) (h : length t ≤ longest) (e : s ≡ scan
   by-pass : readText t ≡ scanRead s
   by-pass = read-scan t h ∙ ap scanRead (sym e)
 
-  pub read-faulty : s .whole ≡ false → readText t ≡ refusedWith (record { number = sheetForm; place = s .reach })
-  read-faulty w = by-pass ∙ ap (λ b. cond b (testedRead (s .set) (testSet (s .set))) (refusedWith (record { number = sheetForm; place = s .reach }))) w
+  pub read-faulty : s .whole ≡ false → readText t ≡ faultRead (s .reach)
+  read-faulty w = by-pass ∙ ap (λ b. cond b (testedRead (s .set) (testSet (s .set))) (faultRead (s .reach))) w
 
   pub read-tested : s .whole ≡ true → (r : Tested) → testSet (s .set) ≡ r → readText t ≡ testedRead (s .set) r
-  read-tested w r q = by-pass ∙ ap (λ b. cond b (testedRead (s .set) (testSet (s .set))) (refusedWith (record { number = sheetForm; place = s .reach }))) w ∙ ap (testedRead (s .set)) q
+  read-tested w r q = by-pass ∙ ap (λ b. cond b (testedRead (s .set) (testSet (s .set))) (faultRead (s .reach))) w ∙ ap (testedRead (s .set)) q
 
 pub scan-within : (t : List ℕ) → scanText t .reach ≤ length t
 unfolding scanText

@@ -32,12 +32,19 @@ testedRead s (States n) = record { answer = Taken; set = s }
 testedRead s (FailedWith f) = refusedWith f
 
 -- a fault of form is placed at the length of the longest beginning that some sheet has
+abbrev pub faultRead : ℕ → SheetRead
+faultRead p = refusedWith (record { number = sheetForm; place = p })
+
+-- a text over 1,024 bytes, whatever it holds
+abbrev pub longRead : SheetRead
+longRead = refusedWith (record { number = sheetTooLong; place = 0 })
+
 abbrev pub formRead : (t : List ℕ) → Form t → SheetRead
-formRead t (stops p f) = refusedWith (record { number = sheetForm; place = p })
+formRead t (stops p f) = faultRead p
 formRead t (fits m) = testedRead (setOf (m .sheet)) (testSet (setOf (m .sheet)))
 
 abbrev pub readOf : (t : List ℕ) → Form t → SheetRead
-readOf t f = cond (ltb longest (length t)) (refusedWith (record { number = sheetTooLong; place = 0 })) (formRead t f)
+readOf t f = cond (ltb longest (length t)) longRead (formRead t f)
 
 -- what reading a text answers: every text has a form (`form`), and only one (`read-by`)
 unfoldable pub readText : List ℕ → SheetRead

@@ -1,7 +1,6 @@
 -- As far as the form goes.
-use mathlib.Core.Path.{ap, subst}
+use mathlib.Core.Path.{ap}
 use native.Mathlib.Omega.{arith}
-use Prim.Native.Nat.{_≤_, _<_}
 use lib.ListN.{drop, length-drop}
 use Rattle.sheet_reader.proofs.Readings.{scan-within, reach-long, reach-scan}
 use Rattle.sheet_scan.specs.declared.Scanned.{Scanned}
@@ -13,7 +12,7 @@ left-requires : tie.Need-left-requires
 left-requires c κs = search needs
 
 returns : tie.Need-returns
-returns c = let a = c .before .before .before .args in let t = drop (a .at) (a .text .now) in omega (arith, reach-long t (subst (λ n. 1024 < n) (c .before .left .ensures) (c .if1 .taken)))
+returns c = let a = c .before .before .before .args in let t = drop (a .at) (a .text .now) in omega (arith, reach-long t (omega (arith, c .before .left .ensures, c .if1 .taken)))
 
 scan-requires : tie.Need-scan-requires
 scan-requires c κs = search needs
@@ -22,7 +21,7 @@ add-result : tie.Need-add-result
 add-result c = let a = c .before .before .before .before .before .args in let t = drop (a .at) (a .text .now) in omega (arith, scan-within t, length-drop (a .at) (a .text .now), ap (λ (s : Scanned). s .reach) (c .before .scan .ensures))
 
 returns-2 : tie.Need-returns-2
-returns-2 c = let a = c .before .before .before .before .before .args in let t = drop (a .at) (a .text .now) in omega (arith, reach-scan t (subst (λ n. n ≤ 1024) (c .before .before .before .left .ensures) (c .before .before .if1 .left)), ap (λ (s : Scanned). s .reach) (c .before .scan .ensures))
+returns-2 c = let a = c .before .before .before .before .before .args in let t = drop (a .at) (a .text .now) in omega (arith, reach-scan t (omega (arith, c .before .before .before .left .ensures, c .before .before .if1 .left)), ap (λ (s : Scanned). s .reach) (c .before .scan .ensures))
 
 pub place-after-spec : {M : Type 1} → statement M
 place-after-spec = tie.close (tie.spec left-requires returns scan-requires add-result returns-2)

@@ -1,4 +1,5 @@
 -- A line begins with h or s, where there is room for a task.
+use native.Mathlib.Omega.{arith}
 use borrow.Author.Tests.{eq-eqb, ne-eqb, lt-ltb, le-ltb}
 use mathlib.Core.Path.{refl}
 use Rattle.sheet_scan.specs.Steps.{lineStart}
@@ -11,22 +12,22 @@ blank-requires c κs = search needs
 
 returns : tie.Need-returns
 unfolding lineStart
-returns c = let a = c .before .before .before .args in rw (c .blank .ensures, le-ltb (a .s .set .count) 7 (c .before .if1 .taken)) refl
+returns c = let a = c .before .before .before .args in rw (c .blank .ensures, le-ltb (a .s .set .count) 7 (omega (arith, c .before .if1 .taken))) refl
 
 returns-2 : tie.Need-returns-2
 unfolding lineStart
-returns-2 c = let a = c .before .before .before .args in rw (lt-ltb (a .s .set .count) 7 (c .before .if1 .left), eq-eqb (a .b) 104 (c .if2 .taken)) refl
+returns-2 c = let a = c .before .before .before .args in rw (lt-ltb (a .s .set .count) 7 (omega (arith, c .before .if1 .left)), eq-eqb (a .b) 104 (c .if2 .taken)) refl
 
 returns-3 : tie.Need-returns-3
 unfolding lineStart
-returns-3 c = let a = c .before .before .before .before .args in rw (lt-ltb (a .s .set .count) 7 (c .before .before .if1 .left), ne-eqb (a .b) 104 (c .before .if2 .left), eq-eqb (a .b) 115 (c .if3 .taken)) refl
+returns-3 c = let a = c .before .before .before .before .args in rw (lt-ltb (a .s .set .count) 7 (omega (arith, c .before .before .if1 .left)), ne-eqb (a .b) 104 (c .before .if2 .left), eq-eqb (a .b) 115 (c .if3 .taken)) refl
 
 blank-requires-2 : tie.Need-blank-requires-2
 blank-requires-2 c κs = search needs
 
 returns-4 : tie.Need-returns-4
 unfolding lineStart
-returns-4 c = let a = c .before .before .before .before .before .args in rw (c .blank2 .ensures, lt-ltb (a .s .set .count) 7 (c .before .before .before .if1 .left), ne-eqb (a .b) 104 (c .before .before .if2 .left), ne-eqb (a .b) 115 (c .before .if3 .left)) refl
+returns-4 c = let a = c .before .before .before .before .before .args in rw (c .blank2 .ensures, lt-ltb (a .s .set .count) 7 (omega (arith, c .before .before .before .if1 .left)), ne-eqb (a .b) 104 (c .before .before .if2 .left), ne-eqb (a .b) 115 (c .before .if3 .left)) refl
 
 pub at-line-spec : {M : Type 1} → statement M
 at-line-spec =

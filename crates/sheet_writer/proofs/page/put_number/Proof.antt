@@ -1,4 +1,5 @@
 -- One digit, or two.
+use native.Mathlib.Omega.{arith}
 use mathlib.Core.Path.{sym}
 use Prim.Native.Nat.{_-_}
 use borrow.Author.Needs.{needs}
@@ -14,7 +15,7 @@ put-requires : tie.Need-put-requires
 put-requires c κs = search needs
 
 returns : tie.Need-returns
-returns c = puts-as (c .put .ensures) (sym (decimal-low (c .before .before .before .args .v) (c .before .before .if1 .taken)))
+returns c = puts-as (c .put .ensures) (sym (decimal-low (c .before .before .before .args .v) (omega (arith, c .before .before .if1 .taken))))
 
 add-put-2 : tie.Need-add-put-2
 add-put-2 c = search needs
@@ -29,7 +30,7 @@ put-requires-3 : tie.Need-put-requires-3
 put-requires-3 c κs = search needs
 
 returns-2 : tie.Need-returns-2
-returns-2 c = puts-as (puts-then (c .before .before .put2 .ensures) (c .put3 .ensures)) (sym (decimal-high (c .before .before .before .before .before .args .v) (c .before .before .before .before .if1 .left)))
+returns-2 c = puts-as (puts-then (c .before .before .put2 .ensures) (c .put3 .ensures)) (sym (decimal-high (c .before .before .before .before .before .args .v) (omega (arith, c .before .before .before .before .if1 .left))))
 
 pub put-number-spec : {M : Type 1} → statement M
 put-number-spec =
