@@ -16,19 +16,37 @@ refused-requires : tie.Need-refused-requires
 refused-requires c κs = search needs
 
 returns : tie.Need-returns
-returns c = let a = c .before .before .before .before .args in let t = drop (a .at) (a .text .now) in c .refused .ensures ∙ sym (read-long t (omega (arith, c .before .before .left .ensures, c .before .if1 .taken)))
+returns c =
+    let c4 = c .before .before .before .before in
+    let a = c4 .args in
+    let t = drop (a .at) (a .text .now) in
+    c .refused .ensures ∙ sym (read-long t (omega (arith, c .before .before .left .ensures, c .before .if1 .taken)))
 
 scan-requires : tie.Need-scan-requires
 scan-requires c κs = search needs
 
 cast-t9 : tie.Need-cast-t9
-cast-t9 c = let a = c .before .before .before .before .before .before .before .args in let t = drop (a .at) (a .text .now) in omega (arith, scan-within t, c .before .before .before .before .before .left .ensures, c .before .before .before .before .if1 .left, ap (λ (s : Scanned). s .reach) (c .before .before .before .scan .ensures))
+cast-t9 c =
+    let c3 = c .before .before .before in
+    let c4 = c3 .before in
+    let c5 = c4 .before in
+    let c7 = c5 .before .before in
+    let a = c7 .args in
+    let t = drop (a .at) (a .text .now) in
+    omega (arith, scan-within t, c5 .left .ensures, c4 .if1 .left, ap (λ (s : Scanned). s .reach) (c3 .scan .ensures))
 
 refused-requires-2 : tie.Need-refused-requires-2
 refused-requires-2 c κs = search needs
 
 returns-2 : tie.Need-returns-2
-returns-2 c = let a = c .before .before .before .before .before .before .before .before .args in let t = drop (a .at) (a .text .now) in c .refused2 .ensures ∙ sym (read-faulty t (c .before .before .before .before .scan .result) (omega (arith, c .before .before .before .before .before .before .left .ensures, c .before .before .before .before .before .if1 .left)) (c .before .before .before .before .scan .ensures) (not-true _ (c .before .before .if2 .taken)))
+returns-2 c =
+    let c4 = c .before .before .before .before in
+    let c5 = c4 .before in
+    let c6 = c5 .before in
+    let c8 = c6 .before .before in
+    let a = c8 .args in
+    let t = drop (a .at) (a .text .now) in
+    c .refused2 .ensures ∙ sym (read-faulty t (c4 .scan .result) (omega (arith, c6 .left .ensures, c5 .if1 .left)) (c4 .scan .ensures) (not-true _ (c .before .before .if2 .taken)))
 
 test-requires : tie.Need-test-requires
 test-requires c κs = search needs
@@ -43,10 +61,27 @@ refused-requires-3 : tie.Need-refused-requires-3
 refused-requires-3 c κs = search needs
 
 returns-3 : tie.Need-returns-3
-returns-3 c = let a = c .before .before .before .before .before .before .before .before .before .before .args in let t = drop (a .at) (a .text .now) in sym (read-tested t (c .before .before .before .before .before .before .scan .result) (omega (arith, c .before .before .before .before .before .before .before .before .left .ensures, c .before .before .before .before .before .before .before .if1 .left)) (c .before .before .before .before .before .before .scan .ensures) (not-false _ (c .before .before .before .before .if2 .left)) _ (sym (c .before .before .test .ensures) ∙ c .enum-told .given .1))
+returns-3 c =
+    let c4 = c .before .before .before .before in
+    let c6 = c4 .before .before in
+    let c7 = c6 .before in
+    let c8 = c7 .before in
+    let c10 = c8 .before .before in
+    let a = c10 .args in
+    let t = drop (a .at) (a .text .now) in
+    sym (read-tested t (c6 .scan .result) (omega (arith, c8 .left .ensures, c7 .if1 .left)) (c6 .scan .ensures) (not-false _ (c4 .if2 .left)) _ (sym (c .before .before .test .ensures) ∙ c .enum-told .given .1))
 
 returns-4 : tie.Need-returns-4
-returns-4 c = let a = c .before .before .before .before .before .before .before .before .before .before .before .before .args in let t = drop (a .at) (a .text .now) in c .refused3 .ensures ∙ sym (read-tested t (c .before .before .before .before .before .before .before .before .scan .result) (omega (arith, c .before .before .before .before .before .before .before .before .before .before .left .ensures, c .before .before .before .before .before .before .before .before .before .if1 .left)) (c .before .before .before .before .before .before .before .before .scan .ensures) (not-false _ (c .before .before .before .before .before .before .if2 .left)) _ (sym (c .before .before .before .before .test .ensures) ∙ c .before .before .f .given .1))
+returns-4 c =
+    let c4 = c .before .before .before .before in
+    let c6 = c4 .before .before in
+    let c8 = c6 .before .before in
+    let c9 = c8 .before in
+    let c10 = c9 .before in
+    let c12 = c10 .before .before in
+    let a = c12 .args in
+    let t = drop (a .at) (a .text .now) in
+    c .refused3 .ensures ∙ sym (read-tested t (c8 .scan .result) (omega (arith, c10 .left .ensures, c9 .if1 .left)) (c8 .scan .ensures) (not-false _ (c6 .if2 .left)) _ (sym (c4 .test .ensures) ∙ c .before .before .f .given .1))
 
 pub read-at-spec : {M : Type 1} → statement M
 read-at-spec =

@@ -31,13 +31,29 @@ loop-less : tie.Need-loop-less Inv-loop μ-loop
 loop-less c = omega arith
 
 loop-again : tie.Need-loop-again Inv-loop μ-loop
-loop-again c = let l = c .before .before .loop in let a = c .before .before .before .args in let b = a .buf .now in let p = a .page .now in let z : 0 + l .i ≡ l .i = omega arith in let hb : 0 + l .i < length b = omega (arith, c .before .before .before .pre .0) in let hp : l .i < length p = omega (arith, c .before .before .before .pre .1) in (omega arith, ap (λ x. set x (l .i) (getD p (l .i) 0)) (l .inv .1) ∙ ap (λ k. set (paste b 0 p (l .i)) k (getD p (l .i) 0)) (sym z) ∙ paste-suc b 0 p (l .i) 0 hb hp ∙ ap (paste b 0 p) (sym (add-one (l .i))), length-set (l .buf) (l .i) _ ∙ l .inv .2)
+loop-again c =
+    let c3 = c .before .before .before in
+    let l = c .before .before .loop in
+    let a = c3 .args in
+    let b = a .buf .now in
+    let p = a .page .now in
+    let z : 0 + l .i ≡ l .i = omega arith in
+    let hb : 0 + l .i < length b = omega (arith, c3 .pre .0) in
+    let hp : l .i < length p = omega (arith, c3 .pre .1) in
+    (omega arith, ap (λ x. set x (l .i) (getD p (l .i) 0)) (l .inv .1) ∙ ap (λ k. set (paste b 0 p (l .i)) k (getD p (l .i) 0)) (sym z) ∙ paste-suc b 0 p (l .i) 0 hb hp ∙ ap (paste b 0 p) (sym (add-one (l .i))), length-set (l .buf) (l .i) _ ∙ l .inv .2)
 
 same-length : tie.Need-same-length Inv-loop μ-loop
 same-length c = c .before .loop .inv .2
 
 returns : tie.Need-returns Inv-loop μ-loop
-returns c = let l = c .before .loop in let a = c .before .before .args in let b = a .buf .now in let p = a .page .now in let e : l .i ≡ a .n = omega arith in let z : 0 + a .n ≡ a .n = omega arith in l .inv .1 ∙ ap (paste b 0 p) e ∙ ap (λ k. take (a .n) p ++ drop k b) z
+returns c =
+    let l = c .before .loop in
+    let a = c .before .before .args in
+    let b = a .buf .now in
+    let p = a .page .now in
+    let e : l .i ≡ a .n = omega arith in
+    let z : 0 + a .n ≡ a .n = omega arith in
+    l .inv .1 ∙ ap (paste b 0 p) e ∙ ap (λ k. take (a .n) p ++ drop k b) z
 
 pub copy-spec : {M : Type 1} → statement M
 copy-spec =

@@ -14,7 +14,14 @@ enum-told : tie.Need-enum-told
 enum-told c = search needs
 
 place-requires : tie.Need-place-requires
-place-requires c κs = let s = c .before .before .before .before .before .args .set in let a : length (s .name) ≡ 16 = search needs in let g = c .before .before .before .before .before .good .0 .1 .1 .1 .1 .0 .1 .0 .1 in let b : length (s .tasks) ≡ 7 = sym (length-map (s .tasks) _) ∙ g in valid s a b (passed s _ (sym (c .before .before .before .test .ensures) ∙ c .before .enum-told .given .1))
+place-requires c κs =
+    let c3 = c .before .before .before in
+    let c5 = c3 .before .before in
+    let s = c5 .args .set in
+    let a : length (s .name) ≡ 16 = search needs in
+    let g = c5 .good .0 .1 .1 .1 .1 .0 .1 .0 .1 in
+    let b : length (s .tasks) ≡ 7 = sym (length-map (s .tasks) _) ∙ g in
+    valid s a b (passed s _ (sym (c3 .test .ensures) ∙ c .before .enum-told .given .1))
 
 enum-known-f : tie.Need-enum-known-f
 enum-known-f c = search needs
@@ -23,10 +30,17 @@ same-length : tie.Need-same-length
 same-length c = search needs
 
 returns : tie.Need-returns
-returns c = c .before .before .place .ensures ∙ sym (write-tested (c .before .before .before .before .before .before .before .before .args .set) (c .before .before .before .before .before .before .before .before .args .buf .now) _ (sym (c .before .before .before .before .before .before .test .ensures) ∙ c .before .before .before .before .enum-told .given .1))
+returns c =
+    let c4 = c .before .before .before .before in
+    let c6 = c4 .before .before in
+    let c8 = c6 .before .before in
+    c .before .before .place .ensures ∙ sym (write-tested (c8 .args .set) (c8 .args .buf .now) _ (sym (c6 .test .ensures) ∙ c4 .enum-told .given .1))
 
 returns-2 : tie.Need-returns-2
-returns-2 c = sym (write-tested (c .before .before .before .before .before .args .set) (c .before .before .before .before .before .args .buf .now) _ (sym (c .before .before .before .test .ensures) ∙ c .before .f .given .1))
+returns-2 c =
+    let c3 = c .before .before .before in
+    let c5 = c3 .before .before in
+    sym (write-tested (c5 .args .set) (c5 .args .buf .now) _ (sym (c3 .test .ensures) ∙ c .before .f .given .1))
 
 pub write-spec : {M : Type 1} → statement M
 write-spec =

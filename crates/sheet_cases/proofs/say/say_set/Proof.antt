@@ -57,7 +57,11 @@ array-share-prefix-page : tie.Need-array-share-prefix-page
 array-share-prefix-page c = search needs
 
 slice-aggregate-say-3 : tie.Need-slice-aggregate-say-3
-slice-aggregate-say-3 c = let h : c .before .before .before .n .given .0 .0 ≤ length (c .before .before .before .before .before .before .write .last .1 .0) = omega arith in sym (length-take-le _ _ h)
+slice-aggregate-say-3 c =
+    let c3 = c .before .before .before in
+    let c6 = c3 .before .before .before in
+    let h : c3 .n .given .0 .0 ≤ length (c6 .write .last .1 .0) = omega arith in
+    sym (length-take-le _ _ h)
 
 say-requires-3 : tie.Need-say-requires-3
 say-requires-3 c κs = search needs

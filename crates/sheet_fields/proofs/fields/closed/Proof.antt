@@ -16,14 +16,23 @@ push-requires c κs = search needs
 
 returns-2 : tie.Need-returns-2
 unfolding closedOf
-returns-2 c = let m = c .before .before .before .before .before .args .s .mode in rw (c .before .before .push .ensures, ne-eqb m 5 (c .before .before .before .if1 .left), eq-eqb m 6 (c .if2 .taken)) refl
+returns-2 c =
+    let c3 = c .before .before .before in
+    let c5 = c3 .before .before in
+    let m = c5 .args .s .mode in
+    rw (c .before .before .push .ensures, ne-eqb m 5 (c3 .if1 .left), eq-eqb m 6 (c .if2 .taken)) refl
 
 blank-requires : tie.Need-blank-requires
 blank-requires c κs = search needs
 
 returns-3 : tie.Need-returns-3
 unfolding closedOf
-returns-3 c = let s = c .before .before .before .before .before .before .before .before .args .s in rw (c .blank .ensures, ne-eqb (s .mode) 5 (c .before .before .before .before .before .before .if1 .left), ne-eqb (s .mode) 6 (c .before .before .before .if2 .left), le-ltb (s .set .count) 7 (c .before .if3 .taken)) refl
+returns-3 c =
+    let c3 = c .before .before .before in
+    let c6 = c3 .before .before .before in
+    let c8 = c6 .before .before in
+    let s = c8 .args .s in
+    rw (c .blank .ensures, ne-eqb (s .mode) 5 (c6 .if1 .left), ne-eqb (s .mode) 6 (c3 .if2 .left), le-ltb (s .set .count) 7 (c .before .if3 .taken)) refl
 
 cast-i : tie.Need-cast-i
 cast-i c = search needs
@@ -42,7 +51,13 @@ blank-requires-2 c κs = search needs
 
 returns-4 : tie.Need-returns-4
 unfolding closedOf
-returns-4 c = let s = c .before .before .before .before .before .before .before .before .args .s in rw (c .blank2 .ensures, c .before .before .before .before .before .push .ensures, ne-eqb (s .mode) 5 (c .before .before .before .before .before .before .if1 .left), ne-eqb (s .mode) 6 (c .before .before .before .if2 .left), lt-ltb (s .set .count) 7 (c .before .if3 .left)) refl
+returns-4 c =
+    let c3 = c .before .before .before in
+    let c5 = c3 .before .before in
+    let c6 = c5 .before in
+    let c8 = c6 .before .before in
+    let s = c8 .args .s in
+    rw (c .blank2 .ensures, c5 .push .ensures, ne-eqb (s .mode) 5 (c6 .if1 .left), ne-eqb (s .mode) 6 (c3 .if2 .left), lt-ltb (s .set .count) 7 (c .before .if3 .left)) refl
 
 pub closed-spec : {M : Type 1} → statement M
 closed-spec =

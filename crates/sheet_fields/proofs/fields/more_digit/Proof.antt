@@ -30,11 +30,17 @@ cast-result c = search needs
 
 returns-3 : tie.Need-returns-3
 unfolding digit
-returns-3 c = let a = c .before .before .before .args in rw (le-leb 48 (a .b) (c .before .before .if1 .left), le-leb (a .b) 57 (c .before .if2 .left), le-leb (10 * a .v + (a .b - 48)) 16 (omega (arith, c .if3 .taken))) refl
+returns-3 c =
+    let c3 = c .before .before .before in
+    let a = c3 .args in
+    rw (le-leb 48 (a .b) (c .before .before .if1 .left), le-leb (a .b) 57 (c .before .if2 .left), le-leb (10 * a .v + (a .b - 48)) 16 (omega (arith, c .if3 .taken))) refl
 
 returns-4 : tie.Need-returns-4
 unfolding digit
-returns-4 c = let a = c .before .before .before .args in rw (le-leb 48 (a .b) (c .before .before .if1 .left), le-leb (a .b) 57 (c .before .if2 .left), lt-leb (10 * a .v + (a .b - 48)) 16 (omega (arith, c .if3 .left))) refl
+returns-4 c =
+    let c3 = c .before .before .before in
+    let a = c3 .args in
+    rw (le-leb 48 (a .b) (c .before .before .if1 .left), le-leb (a .b) 57 (c .before .if2 .left), lt-leb (10 * a .v + (a .b - 48)) 16 (omega (arith, c .if3 .left))) refl
 
 pub more-digit-spec : {M : Type 1} → statement M
 more-digit-spec =

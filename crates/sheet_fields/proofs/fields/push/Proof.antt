@@ -15,7 +15,9 @@ returns c = let a = c .before .args in rw (le-ltb (a .last) (a .v) (omega (arith
 
 returns-2 : tie.Need-returns-2
 unfolding pushOf
-returns-2 c = let a = c .before .before .args in rw (lt-ltb (a .last) (a .v) (omega (arith, c .before .if1 .left)), lt-leb (a .v) 16 (c .if2 .taken)) refl
+returns-2 c =
+    let a = c .before .before .args in
+    rw (lt-ltb (a .last) (a .v) (omega (arith, c .before .if1 .left)), lt-leb (a .v) 16 (c .if2 .taken)) refl
 
 sub-wrapping-add-u16 : tie.Need-sub-wrapping-add-u16
 sub-wrapping-add-u16 c = search needs
@@ -31,7 +33,10 @@ wrapping-add-u16-requires c κs = search needs
 
 returns-3 : tie.Need-returns-3
 unfolding pushOf
-returns-3 c = let a = c .before .before .before .args in rw (c .wrapping-add-u16 .ensures, bit-value (a .v) (omega arith) (c .before .if2 .left), lt-ltb (a .last) (a .v) (omega (arith, c .before .before .if1 .left)), le-leb (a .v) 16 (c .before .if2 .left)) refl
+returns-3 c =
+    let c3 = c .before .before .before in
+    let a = c3 .args in
+    rw (c .wrapping-add-u16 .ensures, bit-value (a .v) (omega arith) (c .before .if2 .left), lt-ltb (a .last) (a .v) (omega (arith, c .before .before .if1 .left)), le-leb (a .v) 16 (c .before .if2 .left)) refl
 
 pub push-spec : {M : Type 1} → statement M
 push-spec =

@@ -14,19 +14,31 @@ element-copy-out-result : tie.Need-element-copy-out-result
 element-copy-out-result c = subst (λ l. c .before .before .args .at < length l) (wordAt-set (c .before .before .args .mode) (c .before .if1 .taken)) (c .before .before .pre)
 
 returns : tie.Need-returns
-returns c = sym (ap (λ l. getD l (c .before .before .before .args .at) 0) (wordAt-set (c .before .before .before .args .mode) (c .before .before .if1 .taken)))
+returns c =
+    let c3 = c .before .before .before in
+    sym (ap (λ l. getD l (c3 .args .at) 0) (wordAt-set (c3 .args .mode) (c .before .before .if1 .taken)))
 
 element-copy-out-result-2 : tie.Need-element-copy-out-result-2
-element-copy-out-result-2 c = subst (λ n. c .before .before .before .args .at < n) (ap length (wordAt-kind (c .before .before .before .args .mode) (c .before .before .if1 .left)) ∙ kind-length (eqb (c .before .before .before .args .mode) 1)) (c .before .before .before .pre)
+element-copy-out-result-2 c =
+    let c3 = c .before .before .before in
+    subst (λ n. c3 .args .at < n) (ap length (wordAt-kind (c3 .args .mode) (c .before .before .if1 .left)) ∙ kind-length (eqb (c3 .args .mode) 1)) (c3 .pre)
 
 returns-2 : tie.Need-returns-2
-returns-2 c = sym (ap (λ l. getD l (c .before .before .before .before .args .at) 0) (wordAt-kind (c .before .before .before .before .args .mode) (c .before .before .before .if1 .left) ∙ ap kindText (eq-eqb (c .before .before .before .before .args .mode) 1 (c .before .before .if2 .taken))))
+returns-2 c =
+    let c3 = c .before .before .before in
+    let c4 = c3 .before in
+    sym (ap (λ l. getD l (c4 .args .at) 0) (wordAt-kind (c4 .args .mode) (c3 .if1 .left) ∙ ap kindText (eq-eqb (c4 .args .mode) 1 (c .before .before .if2 .taken))))
 
 element-copy-out-result-3 : tie.Need-element-copy-out-result-3
-element-copy-out-result-3 c = subst (λ n. c .before .before .before .args .at < n) (ap length (wordAt-kind (c .before .before .before .args .mode) (c .before .before .if1 .left)) ∙ kind-length (eqb (c .before .before .before .args .mode) 1)) (c .before .before .before .pre)
+element-copy-out-result-3 c =
+    let c3 = c .before .before .before in
+    subst (λ n. c3 .args .at < n) (ap length (wordAt-kind (c3 .args .mode) (c .before .before .if1 .left)) ∙ kind-length (eqb (c3 .args .mode) 1)) (c3 .pre)
 
 returns-3 : tie.Need-returns-3
-returns-3 c = sym (ap (λ l. getD l (c .before .before .before .before .args .at) 0) (wordAt-kind (c .before .before .before .before .args .mode) (c .before .before .before .if1 .left) ∙ ap kindText (ne-eqb (c .before .before .before .before .args .mode) 1 (c .before .before .if2 .left))))
+returns-3 c =
+    let c3 = c .before .before .before in
+    let c4 = c3 .before in
+    sym (ap (λ l. getD l (c4 .args .at) 0) (wordAt-kind (c4 .args .mode) (c3 .if1 .left) ∙ ap kindText (ne-eqb (c4 .args .mode) 1 (c .before .before .if2 .left))))
 
 pub letter-spec : {M : Type 1} → statement M
 letter-spec =

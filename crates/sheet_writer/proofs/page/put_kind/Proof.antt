@@ -15,7 +15,10 @@ put-word-requires : tie.Need-put-word-requires
 put-word-requires c κs = search needs
 
 returns : tie.Need-returns
-returns c = puts-as (c .put-word .ensures) (ap kindText (sym (eq-eqb (c .before .before .before .before .args .kind) 1 (c .before .before .before .if1 .taken))))
+returns c =
+    let c3 = c .before .before .before in
+    let c4 = c3 .before in
+    puts-as (c .put-word .ensures) (ap kindText (sym (eq-eqb (c4 .args .kind) 1 (c3 .if1 .taken))))
 
 slice-aggregate-put-word-2 : tie.Need-slice-aggregate-put-word-2
 slice-aggregate-put-word-2 c = search needs
@@ -24,7 +27,10 @@ put-word-requires-2 : tie.Need-put-word-requires-2
 put-word-requires-2 c κs = search needs
 
 returns-2 : tie.Need-returns-2
-returns-2 c = puts-as (c .put-word2 .ensures) (ap kindText (sym (ne-eqb (c .before .before .before .before .args .kind) 1 (c .before .before .before .if1 .left))))
+returns-2 c =
+    let c3 = c .before .before .before in
+    let c4 = c3 .before in
+    puts-as (c .put-word2 .ensures) (ap kindText (sym (ne-eqb (c4 .args .kind) 1 (c3 .if1 .left))))
 
 pub put-kind-spec : {M : Type 1} → statement M
 put-kind-spec =

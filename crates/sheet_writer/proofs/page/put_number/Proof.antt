@@ -15,7 +15,9 @@ put-requires : tie.Need-put-requires
 put-requires c κs = search needs
 
 returns : tie.Need-returns
-returns c = puts-as (c .put .ensures) (sym (decimal-low (c .before .before .before .args .v) (omega (arith, c .before .before .if1 .taken))))
+returns c =
+    let c3 = c .before .before .before in
+    puts-as (c .put .ensures) (sym (decimal-low (c3 .args .v) (omega (arith, c .before .before .if1 .taken))))
 
 add-put-2 : tie.Need-add-put-2
 add-put-2 c = search needs
@@ -30,7 +32,10 @@ put-requires-3 : tie.Need-put-requires-3
 put-requires-3 c κs = search needs
 
 returns-2 : tie.Need-returns-2
-returns-2 c = puts-as (puts-then (c .before .before .put2 .ensures) (c .put3 .ensures)) (sym (decimal-high (c .before .before .before .before .before .args .v) (omega (arith, c .before .before .before .before .if1 .left))))
+returns-2 c =
+    let c4 = c .before .before .before .before in
+    let c5 = c4 .before in
+    puts-as (puts-then (c .before .before .put2 .ensures) (c .put3 .ensures)) (sym (decimal-high (c5 .args .v) (omega (arith, c4 .if1 .left))))
 
 pub put-number-spec : {M : Type 1} → statement M
 put-number-spec =

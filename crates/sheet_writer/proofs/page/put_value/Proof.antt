@@ -19,10 +19,16 @@ put-number-requires : tie.Need-put-number-requires
 put-number-requires c κs = search needs
 
 put-requires : tie.Need-put-requires
-put-requires c κs = omega (arith, c .before .put-number .ensures .next, decimal-length (c .before .before .before .before .before .args .v))
+put-requires c κs =
+    let c5 = c .before .before .before .before .before in
+    omega (arith, c .before .put-number .ensures .next, decimal-length (c5 .args .v))
 
 returns-2 : tie.Need-returns-2
-returns-2 c = puts-as (puts-then (c .before .before .put-number .ensures) (c .put .ensures)) (value-some (c .before .before .before .before .before .before .args .list) (c .before .before .before .before .before .before .args .v) (sym (c .before .before .before .before .before .has .ensures) ∙ not-false _ (c .before .before .before .before .if1 .left)))
+returns-2 c =
+    let c4 = c .before .before .before .before in
+    let c5 = c4 .before in
+    let c6 = c5 .before in
+    puts-as (puts-then (c .before .before .put-number .ensures) (c .put .ensures)) (value-some (c6 .args .list) (c6 .args .v) (sym (c5 .has .ensures) ∙ not-false _ (c4 .if1 .left)))
 
 pub put-value-spec : {M : Type 1} → statement M
 put-value-spec =

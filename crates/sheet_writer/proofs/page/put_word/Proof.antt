@@ -23,7 +23,10 @@ shared-slice-read-put : tie.Need-shared-slice-read-put Inv-loop μ-loop
 shared-slice-read-put c = omega arith
 
 put-requires : tie.Need-put-requires Inv-loop μ-loop
-put-requires c κs = omega (arith, c .before .before .before .loop .inv .1 .next, length-take (c .before .before .before .loop .i) (c .before .before .before .before .before .args .w .now))
+put-requires c κs =
+    let c3 = c .before .before .before in
+    let c5 = c3 .before .before in
+    omega (arith, c3 .loop .inv .1 .next, length-take (c3 .loop .i) (c5 .args .w .now))
 
 add-i : tie.Need-add-i Inv-loop μ-loop
 add-i c = omega arith
@@ -32,7 +35,14 @@ loop-less : tie.Need-loop-less Inv-loop μ-loop
 loop-less c = omega arith
 
 loop-again : tie.Need-loop-again Inv-loop μ-loop
-loop-again c = let l = c .before .before .before .before .loop in let w = c .before .before .before .before .before .before .args .w .now in let h : l .i < length w = c .before .before .before .loop-test .taken in (omega arith, puts-as (puts-then (l .inv .1) (c .put .ensures)) (sym (take-suc w (l .i) 0 h) ∙ ap (λ n. take n w) (sym (add-one (l .i)))))
+loop-again c =
+    let c3 = c .before .before .before in
+    let c4 = c3 .before in
+    let c6 = c4 .before .before in
+    let l = c4 .loop in
+    let w = c6 .args .w .now in
+    let h : l .i < length w = c3 .loop-test .taken in
+    (omega arith, puts-as (puts-then (l .inv .1) (c .put .ensures)) (sym (take-suc w (l .i) 0 h) ∙ ap (λ n. take n w) (sym (add-one (l .i)))))
 
 returns : tie.Need-returns Inv-loop μ-loop
 returns c = puts-as (c .before .loop .inv .1) (take-all (c .before .loop .i) _ (c .loop-test .left))
