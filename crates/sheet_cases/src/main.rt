@@ -58,42 +58,36 @@ fn read_all(cases: &[u8]) {
     }
 }
 
-// A set into buffers of 32, 31 and 30 bytes.
-fn write_lengths(set: Set) {
-    let mut longer = [b'.'; 32];
-    say_wrote(sheet::write(set, &mut longer));
-    say(&longer);
-    say(b"\n");
-    let mut exact = [b'.'; 31];
-    say_wrote(sheet::write(set, &mut exact));
-    say(&exact);
-    let mut shorter = [b'.'; 30];
-    say_wrote(sheet::write(set, &mut shorter));
-    say(&shorter);
+// What writing a set answers, and the buffer after it.
+fn write(set: Set, buf: &mut [u8]) {
+    say_wrote(sheet::write(set, buf));
+    say(buf);
     say(b"\n");
 }
 
-// Sets that do not pass their test, whatever the buffer.
+// Into buffers of 32, 31 and 30 bytes.
+fn write_lengths(set: Set) {
+    let mut longer = [b'.'; 32];
+    write(set, &mut longer);
+    let mut exact = [b'.'; 31];
+    write(set, &mut exact);
+    let mut shorter = [b'.'; 30];
+    write(set, &mut shorter);
+}
+
+// Sets that do not pass their test, whatever the buffer: a count, a record beyond the count, a name.
 fn write_refused(set: Set) {
     let mut buf = [b'.'; 4];
-    let mut eighth = set;
-    eighth.count = 8;
-    say_wrote(sheet::write(eighth, &mut buf));
-    let mut kind = set;
-    let mut t = kind.tasks[0];
-    t.kind = 2;
-    kind.tasks[0] = t;
-    say_wrote(sheet::write(kind, &mut buf));
-    let mut beyond = set;
-    let mut u = beyond.tasks[6];
-    u.gaps = 1;
-    beyond.tasks[6] = u;
-    say_wrote(sheet::write(beyond, &mut buf));
-    let mut name = set;
-    name.name[5] = b'a';
-    say_wrote(sheet::write(name, &mut buf));
-    say(&buf);
-    say(b"\n");
+    let mut s = set;
+    s.name[5] = b'a';
+    write(s, &mut buf);
+    s.name[5] = 0;
+    let mut t = s.tasks[6];
+    t.gaps = 1;
+    s.tasks[6] = t;
+    write(s, &mut buf);
+    s.count = 8;
+    write(s, &mut buf);
 }
 
 fn main() {
