@@ -1,17 +1,17 @@
 -- The round trips, on what reading and writing ensure. Assumes nothing.
 use mathlib.Core.Path.{_≡_, refl, sym, ap, ap₂, _∙_}
 use mathlib.Core.Bool.{Bool, true, false, cond}
-use mathlib.Core.List.{List, _++_}
-use Prim.Native.Nat.{ℕ}
+use mathlib.Core.List.{List, [], _∷_, _++_}
+use Prim.Native.Nat.{ℕ, _≤_}
 use native.Mathlib.Omega.{arith}
 use lib.Dec.{leb, ltb}
 use lib.ListN.{length, take, drop}
 use lib.Seq.{take-at}
-use borrow.Author.Tests.{le-ltb}
+use borrow.Author.Tests.{le-ltb, le-leb}
 use Rattle.tasks.specs.declared.sets.Set.{Set}
 use Rattle.tasks.specs.declared.sets.Tested.{Tested}
 use Rattle.tasks.specs.declared.sets.Tested.the-variants.{States, Refused as FailedWith}
-use Rattle.tasks.specs.Refusals.{bufferTooShort}
+use Rattle.tasks.specs.Refusals.{answered, bufferTooShort}
 use Rattle.tasks.specs.Sets.{testSet}
 use Rattle.sheet_form.specs.Form.{Form, fits, stops, Member}
 use Rattle.sheet_form.specs.Sets.{setOf, sheetOf, textOf, Sized}
@@ -21,10 +21,10 @@ use Rattle.sheet_form.proofs.Trips.{text-back, sheet-formed, set-back}
 use Rattle.sheet_form.proofs.Lengths.{sheet-short}
 use Rattle.sheet_reader.specs.declared.SheetRead.{SheetRead}
 use Rattle.sheet_reader.specs.declared.ReadAnswer.the-variants.{Taken, Refused as ReadRefused}
-use Rattle.sheet_reader.specs.Reading.{longest, longRead, testedRead, formRead, readText}
-use Rattle.sheet_reader.proofs.Readings.{read-by}
+use Rattle.sheet_reader.specs.Reading.{longest, longRead, testedRead, formRead, readText, setValues, saidRead}
+use Rattle.sheet_reader.proofs.Readings.{read-by, read-taken}
 use Rattle.sheet_writer.specs.declared.Wrote.the-variants.{Length, Refused}
-use Rattle.sheet_writer.specs.Writing.{Written, leaving, placed, testedWrite, writeOf}
+use Rattle.sheet_writer.specs.Writing.{Written, leaving, placed, testedWrite, writeOf, saidWrote}
 
 -- a set that was taken
 abbrev taken : Set → SheetRead
@@ -83,3 +83,22 @@ form-back t (fits m) false q e g b = tested-back t m (testSet (setOf (m .sheet))
 pub write-read : (t : List ℕ) (q : SheetRead) → q ≡ readText t → q .answer ≡ Taken → (b : List ℕ) → writeOf (q .set) b ≡ placed t b
 unfolding readText
 write-read t q e g b = form-back t (form t) (ltb longest (length t)) q e g b
+
+-- BOTH IN THE PAPER'S TERMS
+
+pub read-written-said : (s : Set) → Sized s → (b d : List ℕ) (n : ℕ) → leaving (Length n) d ≡ writeOf s b
+    → (q : SheetRead) → q ≡ readText (take n d) → saidRead q ≡ answered (setValues s)
+read-written-said s z b d n e q r = ap saidRead (read-written s z b d n e q r)
+
+pub record Rewritten (t : List ℕ) (w : Written) : Type 0 where
+  pub answer : saidWrote (w .answer) ≡ answered (length t ∷ [])
+  pub bytes : take (length t) (w .bytes) ≡ t
+
+pub write-read-said : (t : List ℕ) (q : SheetRead) → q ≡ readText t → saidRead q .number ≡ 0 → (b : List ℕ) → length t ≤ length b → Rewritten t (writeOf (q .set) b)
+write-read-said t q e g b h =
+    let w : writeOf (q .set) b ≡ leaving (Length (length t)) (t ++ drop (length t) b)
+    = write-read t q e (read-taken t q e g) b ∙ ap (λ c. cond c (leaving (Length (length t)) (t ++ drop (length t) b)) (leaving (Refused (record { number = bufferTooShort; place = length t })) b)) (le-leb (length t) (length b) h) in
+    record {
+      answer = ap (λ (x : Written). saidWrote (x .answer)) w;
+      bytes = ap (λ (x : Written). take (length t) (x .bytes)) w ∙ take-at t (drop (length t) b) (length t) refl;
+    }

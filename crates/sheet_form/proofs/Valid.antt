@@ -8,17 +8,19 @@ use lib.Dec.{T, eqb, ltb}
 use lib.ListN.{length, getD, take, drop, replicate, length-drop, length-replicate, getD-replicate, take-append-drop}
 use lib.Seq.{length-take-le, getD-take, getD-drop, ext-getD}
 use borrow.Author.Tests.{ltb-true, ltb-false, eqb-true, lt-ltb, le-ltb}
+use Rattle.tasks.specs.declared.refusals.Refusal.{Refusal}
 use Rattle.tasks.specs.declared.sets.Task.{Task}
 use Rattle.tasks.specs.declared.sets.Set.{Set}
 use Rattle.tasks.specs.declared.sets.Tested.{Tested}
-use Rattle.tasks.specs.declared.sets.Tested.the-variants.{States}
-use Rattle.tasks.specs.Lists.{lengthOf}
-use Rattle.tasks.specs.Refusals.{badRecord}
-use Rattle.tasks.specs.Sets.{within, nameByte, characters, zeros, goodName, noTask, blank, unfit, faultOf, taskAt, faultAt, refuseOr, lowestFault, testStates, testSet}
+use Rattle.tasks.specs.declared.sets.Tested.the-variants.{States, Refused}
+use Rattle.tasks.specs.Lists.{shortestOf, lengthOf}
+use Rattle.tasks.specs.Refusals.{badRecord, tooManyStates}
+use Rattle.tasks.specs.Sets.{within, nameByte, characters, zeros, goodName, noTask, blank, unfit, cmax, faultOf, taskAt, faultAt, statesOf, refuseOr, lowestFault, testStates, testSet}
 use Rattle.tasks.proofs.SetLaws.{within-both, characters-le}
 use Rattle.sheet_form.specs.Form.{Each}
 use Rattle.sheet_form.specs.Sets.{padded}
 use Rattle.sheet_form.specs.Valid.{TaskOk, Valid}
+use Rattle.sheet_form.proofs.Tests.{by-cond}
 
 -- what passes is not refused
 refuse-none : (n p : ℕ) (t : Tested) (k : ℕ) → refuseOr n p t ≡ States k → (n ≡ 0) × (t ≡ States k)
@@ -150,3 +152,38 @@ valid s l16 l7 p =
       rest = sym (take-append-drop n (s .tasks)) ∙ ap (λ l. take n (s .tasks) ++ l) (ext-getD noTask (drop n (s .tasks)) (replicate (7 - length (take n (s .tasks))) noTask) (dn ∙ sym (length-replicate _ noTask))
           (λ i h. getD-drop n (s .tasks) i noTask ∙ task-blank s p (n + i) (omega arith) (omega (arith, length-drop n (s .tasks), l7)) ∙ sym (getD-replicate (7 - length (take n (s .tasks))) i noTask noTask (omega arith))));
     }
+
+-- THE NUMBERS OF A TEST'S REFUSALS: none is below 3
+
+abbrev From3 : ℕ → Type 0
+From3 n = 0 < n → 3 ≤ n
+
+refuse-from : (n p : ℕ) (t : Tested) (f : Refusal) → From3 n → (t ≡ Refused f → 3 ≤ f .number) → refuseOr n p t ≡ Refused f → 3 ≤ f .number
+refuse-from zero p t f h k e = k e
+refuse-from (suc n) p t f h k e =
+    let g : record { number = suc n; place = p } ≡ f = cc in
+    let j : suc n ≡ f .number = ap (λ (x : Refusal). x .number) g in
+    omega (arith, h (omega arith))
+
+record-from : (τ : Task) → From3 (faultOf τ)
+unfolding faultOf
+record-from τ =
+    by-cond From3 (unfit τ) (λ b h. omega arith)
+    (λ b. by-cond From3 (ltb (τ .deadline) (cmax τ)) (λ b h. omega arith) (λ b. by-cond From3 (ltb (shortestOf (τ .gaps)) (τ .deadline)) (λ b h. omega arith) (λ b h. omega arith)))
+
+fault-from : (s : Set) (i : ℕ) → From3 (faultAt s i)
+unfolding faultAt
+fault-from s i = by-cond From3 (ltb i (s .count)) (λ b. record-from (taskAt s i)) (λ b. by-cond From3 (blank (taskAt s i)) (λ b h. omega arith) (λ b h. omega arith))
+
+lowest-from : (s : Set) (k i : ℕ) (t : Tested) (f : Refusal) → (t ≡ Refused f → 3 ≤ f .number) → lowestFault s k i t ≡ Refused f → 3 ≤ f .number
+unfolding lowestFault
+lowest-from s zero i t f h e = h e
+lowest-from s (suc k) i t f h e = refuse-from (faultAt s i) (suc i) (lowestFault s k (suc i) t) f (fault-from s i) (lowest-from s k (suc i) t f h) e
+
+pub test-from : (s : Set) (f : Refusal) → testSet s ≡ Refused f → 3 ≤ f .number
+unfolding testSet testStates
+test-from s f e =
+    refuse-from (cond (goodName (s .name) && within 1 7 (s .count)) 0 badRecord) 0 (lowestFault s 7 0 (testStates s)) f
+    (by-cond From3 (goodName (s .name) && within 1 7 (s .count)) (λ b h. omega arith) (λ b h. omega arith))
+    (lowest-from s 7 0 (testStates s) f
+    (refuse-from (cond (ltb 60000 (statesOf s)) tooManyStates 0) 0 (States (statesOf s)) f (by-cond From3 (ltb 60000 (statesOf s)) (λ b h. omega arith) (λ b h. omega arith)) (λ g. let z : _≡_ {A = ℕ} 0 1 = cc in let y : ⊥ = omega arith in absurd y))) e
