@@ -18,6 +18,7 @@ pub data Field : Type 0 where
   runs : Sheet → Bool → ℕ → Field
   gaps : Sheet → Bool → ℕ → Values → Field
 
+-- what has been read of a sheet
 pub data State : Type 0 where
   -- k bytes of a word
   word : Word → ℕ → State
@@ -28,10 +29,12 @@ pub data State : Type 0 where
   field : Field → List ℕ → ℕ → State
   fault : State
 
+-- its bytes
 abbrev pub spell : Word → List ℕ
 spell opening = setText
 spell (kind s h) = kindText h
 
+-- the state after its last byte
 abbrev pub after : Word → State
 after opening = name []
 after (kind s h) = field (deadline s h) [] 0
@@ -48,9 +51,11 @@ many (deadline s h) = false
 many (runs s h d) = true
 many (gaps s h d c) = true
 
+-- a sheet with one line more
 abbrev pub add : Sheet → Line → Sheet
 add s l = record { name = s .name; lines = s .lines ++ (l ∷ []) }
 
+-- the field is closed: the next one, or the line's end
 abbrev pub close : Field → List ℕ → ℕ → State
 close (deadline s h) xs v = field (runs s h v) [] 0
 close (runs s h d) xs v = field (gaps s h d (record { firsts = xs; final = v })) [] 0
@@ -60,6 +65,7 @@ close (gaps s h d c) xs v = line (add s (record { hard = h; deadline = d; runs =
 unfoldable pub digit : ℕ → ℕ → ℕ
 digit v b = cond (leb 48 b && leb b 57 && leb (10 * v + (b - 48)) 16) (10 * v + (b - 48)) 0
 
+-- one byte
 unfoldable pub step : State → ℕ → State
 step (word w k) b = cond (eqb b (getD (spell w) k 0)) (cond (ltb (suc k) (length (spell w))) (word w (suc k)) (after w)) fault
 step (name n) b =
@@ -72,9 +78,11 @@ step (field f xs v) b =
     (cond (ltb 0 v) (cond (eqb b (ender f)) (close f xs v) (cond (many f && eqb b 44) (field f (xs ++ (v ∷ [])) 0) fault)) fault)
 step fault b = fault
 
+-- byte by byte
 abbrev pub run : State → List ℕ → State
 run s [] = s
 run s (b ∷ t) = run (step s b) t
 
+-- nothing read
 abbrev pub start : State
 start = word opening 0

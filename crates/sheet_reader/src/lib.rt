@@ -5,7 +5,6 @@ use tasks::refusals;
 use tasks::refusals::Refusal;
 use tasks::sets;
 use tasks::sets::Set;
-use tasks::sets::Task;
 use tasks::sets::Tested;
 ghost use mathlib.Core.Path.{_≡_};
 ghost use Prim.Native.Nat.{_+_};
