@@ -1,2 +1,3 @@
 pub mod Tables
 pub mod Shield
+pub mod Impostors

@@ -1,0 +1,53 @@
+// Sheets: a reader that holds the text and its place, and the two functions that every other caller uses.
+use sheet_reader::SheetRead;
+use sheet_writer::Wrote;
+use tasks::sets::Set;
+ghost use mathlib.Core.Path.{_≡_};
+ghost use Prim.Native.Nat.{_+_};
+ghost use lib.ListN.{drop};
+ghost use Rattle.sheet_reader.specs.Reading.{readText, reachText};
+ghost use Rattle.sheet_writer.specs.Writing.{leaving, writeOf};
+
+// A reader holds the text and its place.
+pub struct Reader<'a> {
+    pub text: &'a [u8],
+    pub at: usize,
+}
+
+// A reader at a text's first byte.
+pub fn begin<'a>(text: &'a [u8]) -> Reader<'a>
+    ensures { λ r. ⌜ (r .text ≡ text .entry) × (r .at ≡ 0) ⌝ }
+{
+    Reader { text, at: 0 }
+}
+
+// The sheet that stands at a reader's place.
+pub fn next<'a>(r: Reader<'a>) -> SheetRead
+    ensures { λ s. ⌜ s ≡ readText (drop (r .entry .at) (now (r .entry .text))) ⌝ }
+{
+    sheet_reader::read_at(r.text, r.at)
+}
+
+// The reader after reading there: at the end of the text or, where the form has a fault, at its place.
+pub fn past<'a>(r: Reader<'a>) -> Reader<'a>
+    ensures { λ q. ⌜ (q .text ≡ r .entry .text) × (q .at ≡ r .entry .at + reachText (drop (r .entry .at) (now (r .entry .text)))) ⌝ }
+{
+    Reader {
+        text: r.text,
+        at: sheet_reader::place_after(r.text, r.at),
+    }
+}
+
+// The set that a text says, or the refusal beside a set of zeros.
+pub fn read(text: &[u8]) -> SheetRead
+    ensures { λ r. ⌜ r ≡ readText (now (text .entry)) ⌝ }
+{
+    next(begin(text))
+}
+
+// The one sheet that a set has, into a lent buffer: its length, or the refusal.
+pub fn write(set: Set, buf: &mut [u8]) -> Wrote
+    ensures { λ r. ⌜ leaving r (now (buf .exit)) ≡ writeOf set (now (buf .entry)) ⌝ }
+{
+    sheet_writer::write(set, buf)
+}

@@ -1,0 +1,59 @@
+-- One byte in a number or a list.
+use mathlib.Core.Bool.{_&&_, cond}
+use Prim.Native.Nat.{ℕ, _+_, _-_, _%_, _^_}
+use lib.Dec.{leb, ltb, eqb}
+use lib.ListN.{set}
+use Rattle.tasks.specs.declared.sets.Task.{Task}
+use Rattle.tasks.specs.declared.sets.Set.{Set}
+use Rattle.sheet_form.specs.Machine.{digit}
+use Rattle.sheet_fields.specs.declared.fields.Kept.{Kept}
+use Rattle.sheet_fields.specs.declared.state.State.{State}
+use Rattle.sheet_fields.specs.State.{atLine, inDeadline, inRuns, inGaps, atFault, blankOf, moved}
+
+-- what is kept of a list that does not rise
+abbrev pub broken : Kept
+broken = record { last = 17; bits = 0 }
+
+-- one number more on a list, while it rises
+unfoldable pub pushOf : ℕ → ℕ → ℕ → Kept
+pushOf last bits v = cond (ltb last v && leb v 16) (record { last = v; bits = (bits + 2 ^ (v - 1)) % 65536 }) broken
+
+-- the byte that ends a field
+unfoldable pub enderOf : ℕ → ℕ
+enderOf m = cond (eqb m inGaps) 10 32
+
+-- a set with one task more
+abbrev pub addTask : Set → Task → Set
+addTask s τ = record { name = s .name; count = s .count + 1; tasks = set (s .tasks) (s .count) τ }
+
+-- the number read ends a field
+unfoldable pub closedOf : State → State
+closedOf s =
+    cond (eqb (s .mode) inDeadline)
+    (record { mode = inRuns; at = 0; last = s .last; bits = s .bits; kind = s .kind; deadline = s .at; runs = s .runs; set = s .set })
+    (cond (eqb (s .mode) inRuns)
+    (record { mode = inGaps; at = 0; last = 0; bits = 0; kind = s .kind; deadline = s .deadline; runs = pushOf (s .last) (s .bits) (s .at) .bits; set = s .set })
+    (cond (ltb (s .set .count) 7)
+    (record {
+      mode = atLine;
+      at = 0;
+      last = 0;
+      bits = 0;
+      kind = 0;
+      deadline = 0;
+      runs = 0;
+      set = addTask (s .set) (record { kind = s .kind; deadline = s .deadline; runs = s .runs; gaps = pushOf (s .last) (s .bits) (s .at) .bits });
+    })
+    (blankOf atFault)))
+
+-- a comma after the number read
+abbrev pub commaOf : State → State
+commaOf s =
+    let k = pushOf (s .last) (s .bits) (s .at) in
+    record { mode = s .mode; at = 0; last = k .last; bits = k .bits; kind = s .kind; deadline = s .deadline; runs = s .runs; set = s .set }
+
+-- a digit, the field's end or, in a list, a comma
+unfoldable pub fieldOf : State → ℕ → State
+fieldOf s b =
+    cond (ltb 0 (digit (s .at) b)) (moved s (s .mode) (digit (s .at) b))
+    (cond (ltb 0 (s .at)) (cond (eqb b (enderOf (s .mode))) (closedOf s) (cond (ltb inDeadline (s .mode) && eqb b 44) (commaOf s) (blankOf atFault))) (blankOf atFault))

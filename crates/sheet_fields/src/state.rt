@@ -1,0 +1,72 @@
+// What is kept of a sheet that is half read.
+use tasks::sets::Set;
+use tasks::sets::Task;
+ghost use mathlib.Core.Path.{_≡_};
+ghost use Rattle.sheet_form.specs.Sets.{noSet};
+ghost use Rattle.sheet_fields.specs.State.{blankOf};
+
+// Where the next byte stands: in a word, in the name, at a line's start, in a field; or a byte before it was a fault.
+pub const SET_WORD: u8 = 0;
+
+pub const HARD_WORD: u8 = 1;
+
+pub const SOFT_WORD: u8 = 2;
+
+pub const NAME: u8 = 3;
+
+pub const LINE: u8 = 4;
+
+pub const DEADLINE: u8 = 5;
+
+pub const RUNS: u8 = 6;
+
+pub const GAPS: u8 = 7;
+
+pub const FAULT: u8 = 8;
+
+// What is kept of the bytes read. `at`: how many bytes of the word or the name, or the number begun, 0 where none is.
+// `last` and `bits`: the list begun.
+pub struct State {
+    pub mode: u8,
+    pub at: u8,
+    pub last: u8,
+    pub bits: u16,
+    pub kind: u8,
+    pub deadline: u8,
+    pub runs: u16,
+    pub set: Set,
+}
+
+// A set of zeros.
+pub fn no_set() -> Set
+    ensures { λ r. ⌜ r ≡ noSet ⌝ }
+{
+    let t = Task {
+        kind: 0,
+        deadline: 0,
+        runs: 0,
+        gaps: 0,
+    };
+    Set {
+        name: [0u8; 16],
+        count: 0,
+        tasks: [t; 7],
+    }
+}
+
+// Nothing kept, at a mode.
+pub fn blank(mode: u8) -> State
+    ensures { λ r. ⌜ r ≡ blankOf mode ⌝ }
+{
+    let set = no_set();
+    State {
+        mode: mode,
+        at: 0,
+        last: 0,
+        bits: 0,
+        kind: 0,
+        deadline: 0,
+        runs: 0,
+        set: set,
+    }
+}

@@ -1,0 +1,9 @@
+pub mod Tests
+pub mod Shown
+pub mod Live
+pub mod Runs
+pub mod Places
+pub mod Bits
+pub mod Valid
+pub mod Trips
+pub mod Lengths

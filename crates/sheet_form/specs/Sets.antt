@@ -1,0 +1,76 @@
+-- The set that a sheet says, and the sheet that a set has.
+use mathlib.Core.Path.{_≡_}
+use mathlib.Core.Bool.{Bool, true, _&&_, cond}
+use mathlib.Core.List.{List, [], _∷_, _++_, map}
+use Prim.Native.Nat.{ℕ, _+_, _-_, _^_, _<_}
+use lib.Dec.{ltb, eqb}
+use lib.ListN.{length, take, replicate}
+use Rattle.tasks.specs.declared.sets.Task.{Task}
+use Rattle.tasks.specs.declared.sets.Set.{Set}
+use Rattle.tasks.specs.Lists.{valuesOf}
+use Rattle.tasks.specs.Sets.{characters, noTask}
+use Rattle.sheet_form.specs.Form.{Values, Line, Sheet, Each, sheetText}
+
+-- FROM A SHEET TO A SET
+
+-- the numbers of a list
+abbrev pub numbers : Values → List ℕ
+numbers l = l .firsts ++ (l .final ∷ [])
+
+-- strictly rising, from above l
+abbrev pub risingFrom : ℕ → List ℕ → Bool
+risingFrom l [] = true
+risingFrom l (x ∷ xs) = ltb l x && risingFrom x xs
+
+abbrev pub rising : Values → Bool
+rising l = risingFrom 0 (numbers l)
+
+-- value k at bit k - 1
+abbrev pub bits : List ℕ → ℕ
+bits [] = 0
+bits (x ∷ xs) = 2 ^ (x - 1) + bits xs
+
+-- a list as a record keeps it; one that does not rise is kept as an empty one, for which the test of a set gives 3 at its task
+unfoldable pub listOf : Values → ℕ
+listOf l = cond (rising l) (bits (numbers l)) 0
+
+abbrev pub kindOf : Bool → ℕ
+kindOf h = cond h 1 0
+
+abbrev pub taskOf : Line → Task
+taskOf l = record { kind = kindOf (l .hard); deadline = l .deadline; runs = listOf (l .runs); gaps = listOf (l .gaps) }
+
+-- xs, made n long
+unfoldable pub padded : {A : Type 0} → ℕ → A → List A → List A
+padded n d xs = xs ++ replicate (n - length xs) d
+
+abbrev pub setOf : Sheet → Set
+setOf s = record { name = padded 16 0 (s .name); count = length (s .lines); tasks = padded 7 noTask (map taskOf (s .lines)) }
+
+-- a set of zeros
+abbrev pub noSet : Set
+noSet = record { name = replicate 16 0; count = 0; tasks = replicate 7 noTask }
+
+-- FROM A SET TO A SHEET
+
+-- the last of a list apart
+unfoldable pub lastApart : List ℕ → Values
+lastApart [] = record { firsts = []; final = 0 }
+lastApart (x ∷ []) = record { firsts = []; final = x }
+lastApart (x ∷ y ∷ ys) = record { firsts = x ∷ lastApart (y ∷ ys) .firsts; final = lastApart (y ∷ ys) .final }
+
+abbrev pub lineOf : Task → Line
+lineOf τ = record { hard = eqb (τ .kind) 1; deadline = τ .deadline; runs = lastApart (valuesOf (τ .runs)); gaps = lastApart (valuesOf (τ .gaps)) }
+
+abbrev pub sheetOf : Set → Sheet
+sheetOf s = record { name = take (characters (s .name)) (s .name); lines = map lineOf (take (s .count) (s .tasks)) }
+
+-- the one sheet that a set has
+abbrev pub textOf : Set → List ℕ
+textOf s = sheetText (sheetOf s)
+
+-- what every set of the code has: 16 bytes of name, seven records, lists of 16 bits
+pub record Sized (s : Set) : Type 0 where
+  pub name : length (s .name) ≡ 16
+  pub tasks : length (s .tasks) ≡ 7
+  pub lists : Each (λ (τ : Task). (τ .runs < 65536) × (τ .gaps < 65536)) (s .tasks)

@@ -1,0 +1,49 @@
+-- One byte of a sheet, by the mode that the bytes before it led to.
+use mathlib.Core.Bool.{_&&_, cond}
+use mathlib.Core.List.{List}
+use Prim.Native.Nat.{ℕ, _+_}
+use lib.Dec.{ltb, eqb}
+use lib.ListN.{length, getD, set}
+use Rattle.tasks.specs.declared.sets.Set.{Set}
+use Rattle.tasks.specs.Sets.{nameByte}
+use Rattle.sheet_form.specs.Form.{kindText, setText}
+use Rattle.sheet_fields.specs.declared.state.State.{State}
+use Rattle.sheet_fields.specs.State.{setWord, hardWord, softWord, inName, atLine, inDeadline, atFault, blankOf, moved}
+use Rattle.sheet_fields.specs.Fields.{fieldOf}
+
+-- the word that a mode names
+abbrev pub wordAt : ℕ → List ℕ
+wordAt m = cond (eqb m setWord) setText (kindText (eqb m hardWord))
+
+-- the word's next byte, and what follows its last
+unfoldable pub wordOf : State → ℕ → State
+wordOf s b =
+    cond (ltb (s .at) (length (wordAt (s .mode))) && eqb b (getD (wordAt (s .mode)) (s .at) 0))
+    (cond (ltb (s .at + 1) (length (wordAt (s .mode)))) (moved s (s .mode) (s .at + 1))
+    (cond (eqb (s .mode) setWord)
+    (moved s inName 0)
+    (record { mode = inDeadline; at = 0; last = s .last; bits = s .bits; kind = cond (eqb (s .mode) hardWord) 1 (s .kind); deadline = s .deadline; runs = s .runs; set = s .set })))
+    (blankOf atFault)
+
+-- a set with one byte of its name set
+abbrev pub addByte : Set → ℕ → ℕ → Set
+addByte s i b = record { name = set (s .name) i b; count = s .count; tasks = s .tasks }
+
+-- a character of the name, or the line's end after the first
+unfoldable pub nameOf : State → ℕ → State
+nameOf s b =
+    cond (nameByte b)
+    (cond (ltb (s .at) 16)
+    (record { mode = s .mode; at = s .at + 1; last = s .last; bits = s .bits; kind = s .kind; deadline = s .deadline; runs = s .runs; set = addByte (s .set) (s .at) b })
+    (blankOf atFault))
+    (cond (ltb 0 (s .at) && eqb b 10) (moved s atLine 0) (blankOf atFault))
+
+-- `h` or `s`, where there is room for a task
+unfoldable pub lineStart : State → ℕ → State
+lineStart s b =
+    cond (ltb (s .set .count) 7) (cond (eqb b 104) (moved s hardWord 1) (cond (eqb b 115) (moved s softWord 1) (blankOf atFault))) (blankOf atFault)
+
+unfoldable pub stepOf : State → ℕ → State
+stepOf s b =
+    cond (ltb (s .mode) inName) (wordOf s b)
+    (cond (eqb (s .mode) inName) (nameOf s b) (cond (eqb (s .mode) atLine) (lineStart s b) (cond (ltb (s .mode) atFault) (fieldOf s b) (blankOf atFault))))

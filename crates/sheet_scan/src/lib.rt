@@ -1,0 +1,55 @@
+// One pass over the bytes of a sheet: how far its form goes, and the set that it says.
+mod steps;
+
+use sheet_fields::state;
+use tasks::sets::Set;
+ghost use mathlib.Core.Path.{_≡_};
+ghost use lib.ListN.{drop};
+ghost use Rattle.sheet_scan.specs.Scan.{stoppedAt, scanText};
+
+// What a pass finds: whether the text is a sheet's, how many of its bytes are a beginning of one, and the set; zeros where it is none's.
+pub struct Scanned {
+    pub whole: bool,
+    pub reach: usize,
+    pub set: Set,
+}
+
+// The form stops at a place.
+fn stopped(reach: usize) -> Scanned
+    ensures { λ r. ⌜ r ≡ stoppedAt reach ⌝ }
+{
+    let set = state::no_set();
+    Scanned {
+        whole: false,
+        reach: reach,
+        set: set,
+    }
+}
+
+// The text from a place on, byte by byte.
+pub fn scan(text: &[u8], at: usize) -> Scanned
+    ensures { λ r. ⌜ r ≡ scanText (drop at (now (text .entry))) ⌝ }
+{
+    let mut s = state::blank(state::SET_WORD);
+    let mut i = at;
+    while i < text.len() {
+        let n = steps::step(s, text[i]);
+        if n.mode == state::FAULT {
+            return stopped(i - at);
+        }
+        s = n;
+        i += 1;
+    }
+    if s.mode != state::LINE {
+        return stopped(i - at);
+    }
+    let set = s.set;
+    if set.count == 0 {
+        return stopped(i - at);
+    }
+    Scanned {
+        whole: true,
+        reach: i - at,
+        set: set,
+    }
+}

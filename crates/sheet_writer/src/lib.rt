@@ -1,0 +1,60 @@
+// The writer of sheets: the one sheet that a set has, into a lent buffer.
+mod page;
+
+use tasks::refusals;
+use tasks::refusals::Refusal;
+use tasks::sets;
+use tasks::sets::Set;
+use tasks::sets::Tested;
+ghost use mathlib.Core.Path.{_≡_};
+ghost use mathlib.Core.List.{_++_};
+ghost use Prim.Native.Nat.{_≤_};
+ghost use lib.ListN.{length, take, drop};
+ghost use Rattle.sheet_form.specs.Sets.{textOf};
+ghost use Rattle.sheet_form.specs.Valid.{Valid};
+ghost use Rattle.sheet_writer.specs.Writing.{leaving, placed, writeOf};
+
+// What writing a sheet answers: its length, or the refusal.
+pub enum Wrote {
+    Length(u32),
+    Refused(Refusal),
+}
+
+// The first n bytes of a page, into a buffer.
+fn copy(buf: &mut [u8], page: &[u8], n: usize)
+    requires { ⌜ (n ≤ length (now buf)) × (n ≤ length (now page)) ⌝ }
+    ensures { λ r. ⌜ now (buf .exit) ≡ take n (now (page .entry)) ++ drop n (now (buf .entry)) ⌝ }
+{
+    let mut i = 0;
+    while i < n {
+        buf[i] = page[i];
+        i += 1;
+    }
+}
+
+// The sheet of a set that passes the test. It is written on a page first, so that its length is known before a byte of the buffer changes.
+fn place(set: Set, buf: &mut [u8]) -> Wrote
+    requires { ⌜ Valid set ⌝ }
+    ensures { λ r. ⌜ leaving r (now (buf .exit)) ≡ placed (textOf set) (now (buf .entry)) ⌝ }
+{
+    let mut page = [0u8; 1024];
+    let n = page::put_sheet(&mut page, set);
+    if buf.len() < n {
+        return Wrote::Refused(Refusal {
+            number: refusals::BUFFER_TOO_SHORT,
+            place: n as u32,
+        });
+    }
+    copy(buf, &page, n);
+    Wrote::Length(n as u32)
+}
+
+// The sheet of a set: refused with the set's own, or 7 with the length needed.
+pub fn write(set: Set, buf: &mut [u8]) -> Wrote
+    ensures { λ r. ⌜ leaving r (now (buf .exit)) ≡ writeOf set (now (buf .entry)) ⌝ }
+{
+    match sets::test(set) {
+        Tested::States(_) => place(set, buf),
+        Tested::Refused(f) => Wrote::Refused(f),
+    }
+}
