@@ -1,0 +1,3 @@
+pub mod Runs
+pub mod Ask
+pub mod Report
