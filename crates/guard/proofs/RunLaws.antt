@@ -27,7 +27,7 @@ use Rattle.guard.specs.declared.runs.Run.{Run}
 use Rattle.guard.specs.Runs.{tickLimit, seven, countsAt, sumHolds, taskFits, placeEmpty, placeFits, legalFor, awaitedFits, fits, Small}
 
 module _ {A : Type 0} (d : A) where
-  seven-at : (f : ℕ → A) (i : ℕ) → i < 7 → getD (seven f) i d ≡ f i
+  pub seven-at : (f : ℕ → A) (i : ℕ) → i < 7 → getD (seven f) i d ≡ f i
   seven-at f zero h = refl
   seven-at f (suc zero) h = refl
   seven-at f (suc (suc zero)) h = refl
@@ -153,6 +153,13 @@ module _ (s : Set) (r : Run) where
         tasks = λ k h. fit-at _ _ _ _ (subst T (place-task k h) (p k (omega arith)));
         rest = λ k h l. subst T (place-rest k h) (p k l);
       }
+
+  pub fits-by : Fits s r → T (fits s r)
+  unfolding fits
+  fits-by w =
+      and-by (leb (r .ticks) tickLimit) _ (subst T (sym (le-leb (r .ticks) tickLimit (w .ticks))) tt)
+      (and-by (awaitedFits s r (r .awaited)) _ (w .awaited)
+      (allBelow-by 7 (placeFits s r) (λ k l. ⊎-elim (λ h. subst T (sym (place-task k h)) (fit-by _ _ _ _ (w .tasks k h))) (λ h. subst T (sym (place-rest k h)) (w .rest k h l)) (lt-or-le k (s .count)))))
 
 -- what a run that fits leaves room for
 small-awaited : (s : Set) (r : Run) (a : Awaited) → r .ticks ≤ tickLimit → T (awaitedFits s r a) → r .substitutions < 4294967295

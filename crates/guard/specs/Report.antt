@@ -1,7 +1,7 @@
 -- Reporting: what a report names, and the run after it, or why it is not taken.
 use mathlib.Core.Bool.{Bool, true, false, not, _&&_, _||_, cond}
-use mathlib.Core.List.{List}
-use Prim.Native.Nat.{ℕ, suc, _+_, _/_, _%_, _^_}
+use mathlib.Core.List.{List, [], _∷_, _++_}
+use Prim.Native.Nat.{ℕ, zero, suc, _+_, _/_, _%_, _^_}
 use lib.Dec.{eqb, ltb}
 use Rattle.arena.specs.Tests.{first, one}
 use Rattle.tasks.specs.declared.sets.Set.{Set}
@@ -14,6 +14,7 @@ use Rattle.game.specs.declared.ticks.Ticked.{Ticked}
 use Rattle.game.specs.declared.ticks.Ticked.the-variants.{Impossible, Missed, Next}
 use Rattle.game.specs.States.{stateAt}
 use Rattle.game.specs.Ticks.{Flags, flagged, inHand, tickOf}
+use Rattle.game.specs.Game.{Seen}
 use Rattle.shield.specs.Entries.{names}
 use Rattle.guard.specs.declared.runs.Counts.{Counts}
 use Rattle.guard.specs.declared.runs.Awaited.{Awaited}
@@ -31,6 +32,11 @@ nextReading reading = (reading + 1) % 2 ^ 32
 -- what an outcome says of task k + 1: the run job finished, and bit k of the arrivals
 abbrev pub flagsAt : Outcome → ℕ → Flags
 flagsAt o k = flagged (eqb (o .choice) (suc k) && o .finished) (names (o .arrivals) k)
+
+-- what is seen of the generator in an outcome: the flags of the first k tasks, task 1 first
+unfoldable pub seenTo : Outcome → ℕ → Seen
+seenTo o zero = []
+seenTo o (suc k) = seenTo o k ++ (flagsAt o k ∷ [])
 
 -- what the tick comes to for task k + 1
 unfoldable pub tickAt : Set → List TaskState → Outcome → ℕ → Ticked
