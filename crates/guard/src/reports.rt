@@ -22,7 +22,7 @@ ghost use Rattle.arena.specs.Tests.{one};
 ghost use Rattle.tasks.specs.Sets.{Passed};
 ghost use Rattle.game.specs.Ticks.{flagged};
 ghost use Rattle.guard.specs.Runs.{seven, countsAt, Small, fits};
-ghost use Rattle.guard.specs.Report.{tickAt, isSuch, firstSuch, strays, impossible, stateAfter, countsAfter, stateThen, countsThen, runAfter, reportRefused, reportNamed, reportAwaited, reportOf};
+ghost use Rattle.guard.specs.Report.{nextReading, tickAt, isSuch, firstSuch, strays, impossible, stateAfter, countsAfter, stateThen, countsThen, runAfter, reportRefused, reportNamed, reportAwaited, reportOf};
 
 // What a report says of the awaited choice: whether the run job finished, and which jobs arrived.
 pub struct Outcome {
@@ -55,6 +55,13 @@ fn both(a: bool, b: bool) -> bool
     ensures { λ r. ⌜ r ≡ (a && b) ⌝ }
 {
     if a { b } else { false }
+}
+
+// The next reading, which rolls over to zero.
+fn next_reading(reading: u32) -> u32
+    ensures { λ r. ⌜ r ≡ nextReading reading ⌝ }
+{
+    std::num::wrapping_add_u32(reading, 1)
 }
 
 // What the tick comes to for task k + 1.
@@ -227,7 +234,7 @@ fn move_run(s: Set, r: Run, o: Outcome) -> Run
         counts: ms,
         ticks: r.ticks + 1,
         substitutions: r.substitutions,
-        reading: std::num::wrapping_add_u32(r.reading, 1),
+        reading: next_reading(r.reading),
         awaited: Awaited::Nothing,
     }
 }
@@ -261,7 +268,7 @@ fn report_awaited(s: Set, r: Run, reading: u32, finished: bool, arrivals: u8) ->
     match awaited {
         Awaited::Nothing => refuse(r, refusals::OUT_OF_TURN, 0),
         Awaited::Choice(c) => {
-            if reading != std::num::wrapping_add_u32(r.reading, 1) {
+            if reading != next_reading(r.reading) {
                 return refuse(r, refusals::WRONG_READING, 0);
             }
             let o = Outcome {

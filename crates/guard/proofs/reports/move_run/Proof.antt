@@ -18,13 +18,13 @@ move-counts-requires c κs = small-counts _ _ (w (c .before .before .before))
 add-t8 : tie.Need-add-t8
 add-t8 c = search needs
 
-wrapping-add-u32-requires : tie.Need-wrapping-add-u32-requires
-wrapping-add-u32-requires c κs = search needs
+next-reading-requires : tie.Need-next-reading-requires
+next-reading-requires c κs = search needs
 
 returns : tie.Need-returns
 unfolding runAfter
-returns c = simp (c .before .before .before .move-states .ensures, c .before .before .move-counts .ensures, c .wrapping-add-u32 .ensures)
+returns c = simp (c .before .before .before .move-states .ensures, c .before .before .move-counts .ensures, c .next-reading .ensures)
 
 pub move-run-spec : {M : Type 1} → statement M
 move-run-spec =
-    tie.close (tie.spec move-states-requires move-counts-requires add-t8 wrapping-add-u32-requires returns)
+    tie.close (tie.spec move-states-requires move-counts-requires add-t8 next-reading-requires returns)

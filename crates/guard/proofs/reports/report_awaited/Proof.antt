@@ -20,15 +20,15 @@ refuse-requires c κs = search needs
 enum-known-awaited : tie.Need-enum-known-awaited
 enum-known-awaited c = search needs
 
-wrapping-add-u32-requires : tie.Need-wrapping-add-u32-requires
-wrapping-add-u32-requires c κs = search needs
+next-reading-requires : tie.Need-next-reading-requires
+next-reading-requires c κs = search needs
 
 refuse-requires-2 : tie.Need-refuse-requires-2
 refuse-requires-2 c κs = search needs
 
 returns : tie.Need-returns
 returns c = let a = c .before .before .before .before .before .before .args in
-    c .refuse2 .ensures ∙ simp (c .before .before .before .before .awaited .given .1, ne-eqb (a .reading) (nextReading (a .r .reading)) (λ q. c .before .if1 .taken (q ∙ sym (c .before .before .wrapping-add-u32 .ensures))))
+    c .refuse2 .ensures ∙ simp (c .before .before .before .before .awaited .given .1, ne-eqb (a .reading) (nextReading (a .r .reading)) (λ q. c .before .if1 .taken (q ∙ sym (c .before .before .next-reading .ensures))))
 
 report-named-requires : tie.Need-report-named-requires
 report-named-requires c κs = let b = c .before .before .before .before .before in (b .pre .0, b .pre .1, open-ticks _ _ (w b) _ (c .before .before .before .awaited .given .1))
@@ -38,7 +38,7 @@ returns-2 c = c .refuse .ensures ∙ simp (c .before .enum-told .given .1)
 
 returns-3 : tie.Need-returns-3
 returns-3 c = let a = c .before .before .before .before .before .before .args in
-    c .report-named .ensures ∙ simp (c .before .before .before .before .awaited .given .1, eq-eqb (a .reading) (nextReading (a .r .reading)) (c .before .if1 .left ∙ c .before .before .wrapping-add-u32 .ensures))
+    c .report-named .ensures ∙ simp (c .before .before .before .before .awaited .given .1, eq-eqb (a .reading) (nextReading (a .r .reading)) (c .before .if1 .left ∙ c .before .before .next-reading .ensures))
 
 pub report-awaited-spec : {M : Type 1} → statement M
 report-awaited-spec =
@@ -47,7 +47,7 @@ report-awaited-spec =
     enum-told
     refuse-requires
     enum-known-awaited
-    wrapping-add-u32-requires
+    next-reading-requires
     refuse-requires-2
     returns
     report-named-requires
