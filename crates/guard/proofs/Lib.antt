@@ -4,3 +4,4 @@ pub mod TickSums
 pub mod Named
 pub mod Keeps
 pub mod Safe
+pub mod Moves
