@@ -1,7 +1,6 @@
 -- A run that start, ask or report gives fits. Assumes nothing.
 use mathlib.Core.Path.{_≡_, refl, sym, ap, subst, _∙_}
-use mathlib.Core.Logic.{_⊎_, inl, inr, ⊎-elim}
-use mathlib.Core.Bool.{Bool, true, false, not, _&&_, _||_, cond}
+use mathlib.Core.Bool.{Bool, true, false, not, _||_, cond}
 use mathlib.Core.List.{List, [], _∷_}
 use Prim.Native.Nat.{ℕ, zero, suc, _+_, _≤_, _<_}
 use native.Mathlib.Omega.{arith}
@@ -9,13 +8,13 @@ use lib.Dec.{T, eqb, leb, ltb, leb→le, ltb→lt, lt→ltb, nltb→le, T-not}
 use lib.ListN.{length}
 use borrow.Author.Tests.{lt-ltb, le-ltb, le-leb, eq-eqb}
 use Rattle.arena.specs.Tests.{first}
-use Rattle.arena.proofs.Tests.{and-left, and-right, and-by, or-left, or-right, T-true, T-false, decide, first-least}
+use Rattle.arena.proofs.Tests.{and-left, and-right, and-by, T-true, T-false, first-least}
 use Rattle.tasks.specs.declared.sets.Task.{Task}
 use Rattle.tasks.specs.declared.sets.Set.{Set}
 use Rattle.tasks.specs.Refusals.{bufferTooShort, stateDoesNotFit, outOfTurn, ticksUsedUp, proposalAboveCount, badEntry, wrongReading, impossibleOutcome, hardMiss}
 use Rattle.tasks.specs.Sets.{cmax, amax, taskAt, statesOf, Passed}
 use Rattle.tasks.proofs.ListLaws.{longest-pos}
-use Rattle.tasks.proofs.Valid.{ValidTask, Valid, passed-valid}
+use Rattle.tasks.proofs.Valid.{ValidTask, passed-valid}
 use Rattle.game.specs.declared.states.TaskState.{TaskState}
 use Rattle.game.specs.States.{inRange, noState, stateAt, indexOf}
 use Rattle.game.proofs.ListTests.{cond-case}
@@ -28,11 +27,11 @@ use Rattle.guard.specs.declared.runs.Taken.the-variants as Taken
 use Rattle.guard.specs.declared.asks.Asked.{Asked}
 use Rattle.guard.specs.declared.reports.Outcome.{Outcome}
 use Rattle.guard.specs.declared.reports.Reported.{Reported}
-use Rattle.guard.specs.Runs.{tickLimit, seven, freshState, freshCounts, noCounts, countsAt, startState, startCounts, startRun, startOf, startTested, placeEmpty, legalFor, awaitedFits, fits, awaits}
-use Rattle.guard.specs.Ask.{serves, choiceFor, askGiven, askRefused, askEntry, askFits, askTested, askOf}
+use Rattle.guard.specs.Runs.{tickLimit, freshState, freshCounts, noCounts, countsAt, startState, startCounts, startRun, startOf, startTested, sumHolds, placeEmpty, legalFor, awaitedFits, fits, awaits, saidTaken}
+use Rattle.guard.specs.Ask.{serves, choiceFor, askGiven, askRefused, askEntry, askFits, askTested, askOf, saidChosen}
 use Rattle.guard.specs.Report.{nextReading, flagsAt, tickAt, isSuch, firstSuch, strays, impossible, stateAfter, countsAfter, stateThen, countsThen, runAfter, reportRefused, reportNamed, reportAwaited, reportTested, reportOf}
-use Rattle.guard.specs.Calls.{Call, ask, report, runBy, runFrom, reached}
-use Rattle.guard.proofs.RunLaws.{seven-at, Fit, Fits, fits-at, fits-by, open-ticks}
+use Rattle.guard.specs.Calls.{Call, ask, report, saidBy, runBy, runFrom, reached}
+use Rattle.guard.proofs.RunLaws.{seven-at, Fit, Fits, fits-by, open-ticks}
 use Rattle.guard.proofs.AskLaws.{choice-legal}
 use Rattle.guard.proofs.TickSums.{fit-tick}
 
@@ -239,3 +238,18 @@ runs-fit s q table r w (c ∷ cs) = runs-fit s q table (runBy s table r c) (call
 
 pub reached-fits : (s : Set) → Passed s → (table : List ℕ) (reading : ℕ) (cs : List Call) → Fits s (reached s table reading cs)
 reached-fits s q table reading cs = runs-fit s q table _ (subst (λ (r : Run). Fits s r) (sym (start-run s q reading)) (start-fits s q reading)) cs
+
+-- arrived is always finished plus replaced plus the job in hand
+pub sums : (s : Set) → Passed s → (table : List ℕ) (reading : ℕ) (cs : List Call) (k : ℕ) → k < s .count
+    → let r = reached s table reading cs in T (sumHolds (stateAt (r .states) k) (countsAt (r .counts) k))
+sums s q table reading cs k h = subst T (sym (eq-eqb _ _ (reached-fits s q table reading cs .tasks k h .sum))) tt
+
+-- and no call on such a run is refused with 21
+pub no-misfit : (s : Set) → Passed s → (table : List ℕ) (r : Run) → Fits s r → (c : Call) → saidBy s table r c .number ≡ stateDoesNotFit → ⊥
+unfolding askGiven
+no-misfit s q table r w (ask p) =
+    ask-case s q table r p (λ a. saidChosen (a .answer) .number ≡ stateDoesNotFit → ⊥) (λ _ z. omega arith) (λ t. absurd (T-not (fits s r) t (fits-by s r w)))
+    (λ _ z. omega arith) (λ _ z. omega arith) (λ _ z. omega arith) (λ _ z. omega arith) (λ _ z. omega arith)
+no-misfit s q table r w (report reading finished arrivals) =
+    report-case s q r w reading finished arrivals (λ a. saidTaken (a .answer) .number ≡ stateDoesNotFit → ⊥) (λ z. omega arith) (λ z. omega arith)
+    (λ c e. named-case s r _ (λ a. saidTaken (a .answer) .number ≡ stateDoesNotFit → ⊥) (λ _ z. omega arith) (λ _ _ z. omega arith) (λ _ _ z. omega arith))

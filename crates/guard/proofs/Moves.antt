@@ -7,7 +7,7 @@ use Prim.Native.Nat.{ℕ, zero, suc, _+_, _*_, _/_, _%_, _^_, _≤_, _<_}
 use native.Mathlib.Nat.{eq-or-lt-of-le, le-of-suc-le-suc, div-add-mod', div-eq-of-lt, le-trans, pow-le-pow-right}
 use native.Mathlib.Numerals.{add-one}
 use native.Mathlib.Omega.{arith}
-use lib.Dec.{T, eqb, leb, ltb, eqb→eq, ltb→lt, nltb→le, T-not}
+use lib.Dec.{T, eqb, leb, ltb, eqb→eq, ltb→lt}
 use lib.ListN.{length, getD, length-append, List·getD-append}
 use lib.Seq.{ext-getD, getD-at}
 use borrow.Author.Tests.{lt-ltb, le-ltb, eq-eqb, ne-eqb}
@@ -20,7 +20,6 @@ use Rattle.tasks.specs.declared.sets.Set.{Set}
 use Rattle.tasks.specs.Refusals.{wrongReading, impossibleOutcome, hardMiss, stateDoesNotFit}
 use Rattle.tasks.specs.Sets.{taskAt, statesTo, Passed}
 use Rattle.game.specs.declared.states.TaskState.{TaskState}
-use Rattle.game.specs.declared.ticks.Ticked.{Ticked}
 use Rattle.game.specs.States.{stateAt, indexOf, taskStateAt}
 use Rattle.game.specs.declared.ticks.Ticked.the-variants.{Impossible, Missed, Next}
 use Rattle.game.specs.Ticks.{Flags, flagged, canFinish, can, jobAfter, late, arrived, tickOf}
@@ -124,7 +123,7 @@ nor true b t = absurd t
 nor false b t = (tt, t)
 
 -- none that passes
-first-none : (f : ℕ → Bool) (n : ℕ) → ((j : ℕ) → j < n → f j ≡ false) → n ≤ first f n 0
+pub first-none : (f : ℕ → Bool) (n : ℕ) → ((j : ℕ) → j < n → f j ≡ false) → n ≤ first f n 0
 first-none f n h = ⊎-elim (λ l. absurd (subst T (h (first f n 0) l) (first-hit f n 0 (omega arith)))) (λ l. l) (lt-or-le (first f n 0) n)
 
 -- what the generator can decide is no impossible tick

@@ -1,14 +1,14 @@
 -- The outcome that a report names is one of the game's. Assumes nothing.
-use mathlib.Core.Path.{_≡_, refl, sym, ap, ap₂, subst, _∙_}
+use mathlib.Core.Path.{_≡_, refl, sym, ap, subst, _∙_}
 use mathlib.Core.Logic.{⊎-elim}
-use mathlib.Core.Bool.{Bool, true, false, not, _&&_, cond}
+use mathlib.Core.Bool.{Bool, true, false}
 use mathlib.Core.List.{List, [], _∷_, _++_, map, List·Memᴰ·head, List·Memᴰ·tail, List·Memᴰ·cases-cons, Memᴰ·append-left, Memᴰ·append-right}
-use Prim.Native.Nat.{ℕ, zero, suc, _+_, _*_, _≤_, _<_}
+use Prim.Native.Nat.{ℕ, zero, suc, _+_, _*_, _<_}
 use native.Mathlib.Nat.{eq-or-lt-of-le, le-of-suc-le-suc}
 use native.Mathlib.Omega.{arith}
 use lib.Dec.{T, eqb}
 use Rattle.arena.specs.Tests.{_∈_}
-use Rattle.arena.specs.Arena.{Next, miss, go, Outcome, out}
+use Rattle.arena.specs.Arena.{Next, miss, go, out}
 use Rattle.tasks.specs.declared.sets.Task.{Task}
 use Rattle.tasks.specs.declared.sets.Set.{Set}
 use Rattle.tasks.specs.Sets.{taskAt, statesTo}
@@ -16,8 +16,8 @@ use Rattle.game.specs.declared.states.TaskState.{TaskState}
 use Rattle.game.specs.declared.ticks.Ticked.{Ticked}
 use Rattle.game.specs.declared.ticks.Ticked.the-variants as Ticked
 use Rattle.game.specs.States.{localOf, stateAt, indexTo, taskStateAt}
-use Rattle.game.specs.Ticks.{Flags, flagged, can, tickOf}
-use Rattle.game.specs.Game.{Seen, gather, flags, movesOf, beside, outcomesTo}
+use Rattle.game.specs.Ticks.{flagged, can, tickOf}
+use Rattle.game.specs.Game.{gather, flags, movesOf, beside, outcomesTo}
 use Rattle.game.proofs.ListTests.{those-by}
 use Rattle.guard.specs.declared.reports.Outcome as declared
 use Rattle.guard.specs.Report.{flagsAt, seenTo, tickAt, isSuch, stateAfter}

@@ -14,7 +14,7 @@ use Rattle.arena.specs.Tests.{allBelow, one}
 use Rattle.arena.proofs.Tests.{and-left, and-right, and-by, T-true, T-ext, lt-or-le, allBelow-at, allBelow-by}
 use Rattle.tasks.specs.declared.sets.Task.{Task}
 use Rattle.tasks.specs.declared.sets.Set.{Set}
-use Rattle.tasks.specs.Sets.{taskAt, statesOf, within}
+use Rattle.tasks.specs.Sets.{taskAt, statesOf}
 use Rattle.tasks.proofs.SetLaws.{within-both}
 use Rattle.game.specs.declared.states.TaskState.{TaskState}
 use Rattle.game.specs.States.{inRange, stateAt, indexOf}

@@ -1,16 +1,15 @@
 -- Safe runs: with a table that passes the test, no ask is refused with 16, no report with 19, and no call with 21. Assumes nothing.
 use mathlib.Core.Path.{_≡_, refl, sym, ap, ap₂, subst, _∙_}
-use mathlib.Core.Logic.{⊎-elim}
 use mathlib.Core.Bool.{Bool, true, false, not, _&&_, _||_, cond}
 use mathlib.Core.List.{List, [], _∷_}
 use Prim.Native.Nat.{ℕ, zero, suc, _+_, _*_, _≤_, _<_}
 use native.Mathlib.Omega.{arith}
-use lib.Dec.{T, eqb, ltb, eqb→eq, ltb→lt, nltb→le, T-not}
+use lib.Dec.{T, eqb, ltb, ltb→lt, nltb→le, T-not}
 use lib.ListN.{length}
 use borrow.Author.Tests.{lt-ltb, le-ltb, eq-eqb, ne-eqb}
-use Rattle.arena.specs.Tests.{_∈_, all, allBelow, imp, first}
-use Rattle.arena.specs.Arena.{Next, miss, go, out, lands, fine}
-use Rattle.arena.proofs.Tests.{and-left, and-right, and-by, or-left, or-right, not-not, imp-at, allBelow-at, all-at, lt-or-le, first-least, T-true, T-false}
+use Rattle.arena.specs.Tests.{all, allBelow, imp}
+use Rattle.arena.specs.Arena.{Next, miss, lands, fine}
+use Rattle.arena.proofs.Tests.{and-left, and-right, and-by, not-not, imp-at, allBelow-at, all-at, first-least, T-true}
 use Rattle.tasks.specs.declared.sets.Set.{Set}
 use Rattle.tasks.specs.declared.sets.Tested.{Tested}
 use Rattle.tasks.specs.declared.sets.Tested.the-variants as Tested
@@ -18,7 +17,7 @@ use Rattle.tasks.specs.Refusals.{Said, badEntry, hardMiss, stateDoesNotFit}
 use Rattle.tasks.specs.Sets.{taskAt, statesTo, statesOf, testSet, Passed}
 use Rattle.tasks.proofs.Valid.{valid, passed, passed-valid}
 use Rattle.game.specs.declared.states.TaskState.{TaskState}
-use Rattle.game.specs.States.{localOf, noState, stateAt, indexTo, indexOf, taskStateAt}
+use Rattle.game.specs.States.{localOf, noState, stateAt, indexTo, indexOf}
 use Rattle.game.specs.Ticks.{runnable}
 use Rattle.game.specs.Game.{outcomesTo, legalAt, arenaOf}
 use Rattle.game.proofs.StateLaws.{states-pos, state-index}
@@ -28,12 +27,11 @@ use Rattle.shield.specs.Entries.{names, entryAt, live}
 use Rattle.shield.specs.Test.{faulty, firstFault, testTested, testOf}
 use Rattle.guard.specs.declared.runs.Awaited.the-variants as Awaited
 use Rattle.guard.specs.declared.runs.Run.{Run}
-use Rattle.guard.specs.declared.asks.Asked.{Asked}
 use Rattle.guard.specs.declared.asks.Chosen.the-variants.{Choice}
 use Rattle.guard.specs.declared.reports.Outcome.{Outcome}
 use Rattle.guard.specs.Runs.{tickLimit, seven, freshState, startState, startRun, legalFor, fits, awaits, saidTaken}
 use Rattle.guard.specs.Ask.{serves, choiceFor, askGiven, askEntry, askFits, askTested, askOf, saidChosen}
-use Rattle.guard.specs.Report.{seenTo, isSuch, tickAt, firstSuch, impossible, runAfter, reportOf}
+use Rattle.guard.specs.Report.{isSuch, tickAt, firstSuch, impossible, runAfter, reportOf}
 use Rattle.guard.specs.Calls.{Call, ask, report, saidBy, runBy, runFrom, reached}
 use Rattle.guard.proofs.RunLaws.{seven-at, Fits, fits-by, index-fits, open-ticks}
 use Rattle.guard.proofs.AskLaws.{serves-by, choice-named, choice-legal}

@@ -5,7 +5,6 @@ use Prim.Native.Nat.{ℕ, zero, suc, _+_, _<_}
 use lib.Dec.{eqb, leb, ltb}
 use lib.ListN.{getD}
 use Rattle.arena.specs.Tests.{allBelow, one}
-use Rattle.tasks.specs.declared.refusals.Refusal.{Refusal}
 use Rattle.tasks.specs.declared.sets.Task.{Task}
 use Rattle.tasks.specs.declared.sets.Set.{Set}
 use Rattle.tasks.specs.declared.sets.Tested.{Tested}

@@ -16,7 +16,7 @@ use tasks::sets::Set;
 use tasks::sets::Tested;
 ghost use mathlib.Core.Path.{_≡_};
 ghost use mathlib.Core.Bool.{_&&_};
-ghost use Prim.Native.Nat.{ℕ, _+_, _<_, _≤_};
+ghost use Prim.Native.Nat.{ℕ, _+_, _<_};
 ghost use lib.Dec.{T};
 ghost use Rattle.arena.specs.Tests.{one};
 ghost use Rattle.tasks.specs.Sets.{Passed};
