@@ -309,3 +309,20 @@ module _ (s : Set) (q : Passed s) (r : Run) (w : Fits s r) (c : ℕ) (e : r .awa
         same-finished s (r .states) c f g (legal-awaited s r (r .awaited) c e (w .awaited)) (p .0) (t .0) (λ j h. ap (λ (f : Flags). f .finishes) (flag j h)),
         bits-low a n (not-not (eqb (a / 2 ^ n) 0) (p .1)) ∙ marks-cong n (names a) (names b) (λ j h. ap (λ (f : Flags). f .arrives) (flag j h)) ∙ sym (bits-low b n (not-not (eqb (b / 2 ^ n) 0) (t .1))),
       )
+
+  -- so a report that is refused with 18 is stray, or what it says is seen in no outcome
+  pub seen-named : (f : Bool) (a : ℕ) → T (not (strays s (said f a)))
+      → (o : arena.Outcome Seen) → o ∈ arenaOf s .outs (indexOf s (r .states)) c → o .seen ≡ seenTo (said f a) (s .count) → Names f a
+  unfolding arenaOf impossible tickAt
+  seen-named f a t o m z =
+      let n = s .count in
+      let i = indexOf s (r .states) in
+      let p = said f a in
+      let d = told s i c n o m in
+      let same = state-index s q (r .states) (λ j h. w .tasks j h .range) in
+      let possible : (j : ℕ) → j < n → isSuch false (tickOf (taskAt s j) (eqb c (suc j)) (stateAt (r .states) j) (flagsAt p j)) ≡ false = λ j h.
+      can-such _ _ _ _ (subst (λ (x : TaskState). T (can (taskAt s j) (eqb c (suc j)) x (flagsAt p j))) (same j h) (subst (λ (f : Flags). T (can (taskAt s j) (eqb c (suc j)) (taskStateAt s i j) f)) (ap (λ (v : Seen). getD v j noFlags) z ∙ seen-at p n j h) (d .can j h))) in
+      neither (strays s p) (ltb (firstSuch s (r .states) p false) n) (T-false (strays s p) t) (le-ltb _ n (first-none _ n possible))
+    where
+      neither : (a b : Bool) → a ≡ false → b ≡ false → T (not (a || b))
+      neither a b x y = subst (λ a. T (not (a || b))) (sym x) (subst (λ b. T (not b)) (sym y) tt)
