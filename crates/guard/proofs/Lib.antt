@@ -1,0 +1,9 @@
+pub mod RunLaws
+pub mod AskLaws
+pub mod TickSums
+pub mod Keeps
+pub mod Named
+pub mod Moves
+pub mod Guarded
+pub mod Safe
+pub mod Built

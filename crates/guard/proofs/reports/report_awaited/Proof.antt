@@ -1,0 +1,55 @@
+-- 14, 17, and then what the report names.
+use borrow.Author.Needs.{needs}
+use borrow.Author.Tests.{eq-eqb, ne-eqb}
+use mathlib.Core.Path.{sym, _∙_}
+use Rattle.tasks.proofs.Valid.{passed-valid}
+use Rattle.guard.specs.Report.{nextReading}
+use Rattle.guard.proofs.RunLaws.{fits-at, Fits, open-ticks}
+use Rattle.guard.proofs.reports.report_awaited.Statement.{statement}
+use Rattle.guard.proofs.reports.report_awaited.Tie as tie
+
+w : (b : tie.Start) → Fits (b .args .s) (b .args .r)
+w b = fits-at _ _ (passed-valid (b .args .s) (b .pre .0) .count .1) (b .pre .1)
+
+enum-told : tie.Need-enum-told
+enum-told c = search needs
+
+refuse-requires : tie.Need-refuse-requires
+refuse-requires c κs = search needs
+
+enum-known-awaited : tie.Need-enum-known-awaited
+enum-known-awaited c = search needs
+
+next-reading-requires : tie.Need-next-reading-requires
+next-reading-requires c κs = search needs
+
+refuse-requires-2 : tie.Need-refuse-requires-2
+refuse-requires-2 c κs = search needs
+
+returns : tie.Need-returns
+returns c = let a = c .before .before .before .before .before .before .args in
+    c .refuse2 .ensures ∙ simp (c .before .before .before .before .awaited .given .1, ne-eqb (a .reading) (nextReading (a .r .reading)) (λ q. c .before .if1 .taken (q ∙ sym (c .before .before .next-reading .ensures))))
+
+report-named-requires : tie.Need-report-named-requires
+report-named-requires c κs = let b = c .before .before .before .before .before in (b .pre .0, b .pre .1, open-ticks _ _ (w b) _ (c .before .before .before .awaited .given .1))
+
+returns-2 : tie.Need-returns-2
+returns-2 c = c .refuse .ensures ∙ simp (c .before .enum-told .given .1)
+
+returns-3 : tie.Need-returns-3
+returns-3 c = let a = c .before .before .before .before .before .before .args in
+    c .report-named .ensures ∙ simp (c .before .before .before .before .awaited .given .1, eq-eqb (a .reading) (nextReading (a .r .reading)) (c .before .if1 .left ∙ c .before .before .next-reading .ensures))
+
+pub report-awaited-spec : {M : Type 1} → statement M
+report-awaited-spec =
+    tie.close
+    (tie.spec
+    enum-told
+    refuse-requires
+    enum-known-awaited
+    next-reading-requires
+    refuse-requires-2
+    returns
+    report-named-requires
+    returns-2
+    returns-3)

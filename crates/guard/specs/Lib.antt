@@ -1,0 +1,4 @@
+pub mod Runs
+pub mod Ask
+pub mod Report
+pub mod Calls
