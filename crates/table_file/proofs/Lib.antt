@@ -1,1 +1,4 @@
 pub mod FileLaws
+pub mod OpenLaws
+pub mod WriteLaws
+pub mod Opening

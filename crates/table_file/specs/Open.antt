@@ -23,7 +23,7 @@ abbrev pub differs : Set → List ℕ → ℕ → Bool
 differs s file i = not (eqb (getD file i 0) (getD (header s) i 0))
 
 -- the lowest byte from lo on that differs, hi where none before hi does
-abbrev pub lowest : Set → List ℕ → ℕ → ℕ → ℕ
+unfoldable pub lowest : Set → List ℕ → ℕ → ℕ → ℕ
 lowest s file lo hi = first (differs s file) (hi - lo) lo
 
 -- some byte from lo on and before hi differs
@@ -31,7 +31,7 @@ abbrev pub other : Set → List ℕ → ℕ → ℕ → Bool
 other s file lo hi = ltb (lowest s file lo hi) hi
 
 -- how many bytes of the header are present
-abbrev pub present : Set → List ℕ → ℕ
+unfoldable pub present : Set → List ℕ → ℕ
 present s file = cond (ltb (length file) (headerLength s)) (length file) (headerLength s)
 
 abbrev pub refuse : ℕ → ℕ → Opened

@@ -18,6 +18,7 @@ abbrev μ-loop : tie.MeasureT-loop
 μ-loop s n file lo hi i₀ i = hi - i
 
 loop-holds : tie.Need-loop-holds Inv-loop μ-loop
+unfolding lowest
 loop-holds c = search needs
 
 shared-slice-read-if1 : tie.Need-shared-slice-read-if1 Inv-loop μ-loop
