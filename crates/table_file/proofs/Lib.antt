@@ -2,3 +2,4 @@ pub mod FileLaws
 pub mod OpenLaws
 pub mod WriteLaws
 pub mod Opening
+pub mod Trips

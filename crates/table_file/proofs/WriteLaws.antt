@@ -45,7 +45,7 @@ module _ (s : Set) (p : Passed s) (t f : List ℕ) where
 
   -- with room in both buffers
   module _ (ht : statesOf s ≤ length t) (hf : fileLength s ≤ length f) where
-    with-room : writeOf s t (length f) ≡ writeVerdict s (testOf s t)
+    pub with-room : writeOf s t (length f) ≡ writeVerdict s (testOf s t)
     with-room = answers ∙ simp (le-ltb (length t) (statesOf s) ht, le-ltb (length f) (fileLength s) hf)
 
     pub refused-table : (g : Refusal) → testOf s t ≡ Verdict.Refused g → Writes s t f (Refused g) f

@@ -59,10 +59,14 @@ openTested s file (Tested.States S) = openPassed s file
 abbrev pub openOf : Set → List ℕ → Opened
 openOf s file = openTested s file (testSet s)
 
--- what is handed back: the file from its table part on; refused, an empty part
+-- the part that goes with an answer: the file from its table part on; refused, an empty part
 abbrev pub partOf : Set → List ℕ → Opened → List ℕ
 partOf s file Opens = drop (headerLength s) file
 partOf s file (Refused f) = []
+
+-- what is handed back
+abbrev pub handed : Set → List ℕ → List ℕ
+handed s file = partOf s file (openOf s file)
 
 -- the answer in the paper's terms
 abbrev pub saidOpened : Opened → Said

@@ -12,7 +12,7 @@ ghost use Prim.Native.Nat.{_≤_};
 ghost use lib.ListN.{length};
 ghost use Rattle.tasks.specs.Sets.{statesOf, Passed};
 ghost use Rattle.table_file.specs.Files.{headerLength};
-ghost use Rattle.table_file.specs.Open.{lowest, present, refuse, openPassed, openOf, partOf};
+ghost use Rattle.table_file.specs.Open.{lowest, present, refuse, openPassed, openOf, handed};
 
 // What the opener answers.
 pub enum Opened {
@@ -100,7 +100,7 @@ pub fn verdict(s: Set, file: &[u8]) -> Opened
 
 // The table part of a file that opens for a set; of any other, its first zero bytes.
 pub fn open<'a>(s: Set, file: &'a [u8]) -> &'a [u8]
-    ensures { λ r. ⌜ now r ≡ partOf s (now (file .entry)) (openOf s (now (file .entry))) ⌝ }
+    ensures { λ r. ⌜ now r ≡ handed s (now (file .entry)) ⌝ }
 {
     let opened = verdict(s, file);
     match opened {
