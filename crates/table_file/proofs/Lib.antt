@@ -3,3 +3,4 @@ pub mod OpenLaws
 pub mod WriteLaws
 pub mod Opening
 pub mod Trips
+pub mod OneSet

@@ -34,6 +34,9 @@ module _ (s : Set) (file : List ℕ) where
   pub present-le : (present s file ≤ headerLength s) × (present s file ≤ length file) × (5 ≤ length file → 5 ≤ present s file)
   present-le = ⊎-elim (λ h. let e = present-file h in (omega arith, omega arith, λ l. omega arith)) (λ h. let e = present-header h in (omega arith, omega arith, λ l. omega arith)) (lt-or-le (length file) (headerLength s))
 
+  pub present-long : 26 ≤ length file → 26 ≤ present s file
+  present-long l = ⊎-elim (λ h. omega (arith, present-file h)) (λ h. omega (arith, present-header h)) (lt-or-le (length file) (headerLength s))
+
   -- a file too short for mark and version
   pub open-short : length file < 5 → openPassed s file ≡ refuse wrongMark 0
   unfolding openPassed

@@ -4,10 +4,11 @@ use mathlib.Core.Logic.{⊎-elim}
 use mathlib.Core.Bool.{Bool, true, false, not, _||_, cond}
 use mathlib.Core.List.{List}
 use Prim.Native.Nat.{ℕ, zero, suc, _+_, _-_, _≤_, _<_}
+use native.Mathlib.Nat.{eq-or-lt-of-le}
 use native.Mathlib.Omega.{arith}
 use lib.Dec.{T, eqb, ltb, eqb→eq, nltb→le}
 use lib.ListN.{length, getD, drop}
-use borrow.Author.Tests.{eq-eqb}
+use borrow.Author.Tests.{eq-eqb, ne-eqb}
 use Rattle.arena.specs.Tests.{first}
 use Rattle.arena.proofs.Tests.{not-not, lt-or-le, first-least}
 use Rattle.tasks.specs.declared.refusals.Refusal.{Refusal}
@@ -52,6 +53,17 @@ first-none f zero k h = omega arith
 first-none f (suc n) k h =
     ap (λ b. cond b k (first f n (suc k))) (h k (omega arith) (omega arith)) ∙ first-none f n (suc k) (λ j p q. h j (omega arith) (omega arith)) ∙ omega arith
 
+-- the first that passes from k on
+first-hit : (f : ℕ → Bool) (n k j : ℕ) → k ≤ j → j < k + n → ((i : ℕ) → k ≤ i → i < j → f i ≡ false) → f j ≡ true → first f n k ≡ j
+first-hit f zero k j l b h e = let z : ⊥ = omega arith in absurd z
+first-hit f (suc n) k j l b h e = ⊎-elim here (λ m. later m (first-hit f n (suc k) j m (omega arith) (λ i p q. h i (omega arith) q) e)) (eq-or-lt-of-le l)
+  where
+    here : k ≡ j → cond (f k) k (first f n (suc k)) ≡ j
+    here q = ap (λ b. cond b k (first f n (suc k))) (ap f q ∙ e) ∙ q
+
+    later : k < j → first f n (suc k) ≡ j → cond (f k) k (first f n (suc k)) ≡ j
+    later m r = ap (λ b. cond b k (first f n (suc k))) (h k (omega arith) m) ∙ r
+
 module _ (s : Set) (file : List ℕ) where
   -- bytes that do not differ
   same-in : (lo hi : ℕ) → T (not (other s file lo hi)) → (i : ℕ) → lo ≤ i → i < hi → getD file i 0 ≡ getD (header s) i 0
@@ -60,10 +72,16 @@ module _ (s : Set) (file : List ℕ) where
       let q : i < first (differs s file) (hi - lo) lo = omega (arith, nltb→le (lowest s file lo hi) hi t) in
       eqb→eq (getD file i 0) (getD (header s) i 0) (not-not (eqb (getD file i 0) (getD (header s) i 0)) (first-least (differs s file) (hi - lo) lo i l q))
 
-  none-in : (lo hi : ℕ) → lo ≤ hi → ((i : ℕ) → i < hi → getD file i 0 ≡ getD (header s) i 0) → lowest s file lo hi ≡ hi
+  pub none-in : (lo hi : ℕ) → lo ≤ hi → ((i : ℕ) → i < hi → getD file i 0 ≡ getD (header s) i 0) → lowest s file lo hi ≡ hi
   unfolding lowest
   none-in lo hi l h =
       first-none (differs s file) (hi - lo) lo (λ j p q. ap not (eq-eqb (getD file j 0) (getD (header s) j 0) (h j (omega arith)))) ∙ omega arith
+
+  pub first-in : (lo hi i : ℕ) → lo ≤ i → i < hi → ((j : ℕ) → j < i → getD file j 0 ≡ getD (header s) j 0) → (getD file i 0 ≡ getD (header s) i 0 → ⊥) → lowest s file lo hi ≡ i
+  unfolding lowest
+  first-in lo hi i l b h e =
+      first-hit (differs s file) (hi - lo) lo i l (omega arith) (λ j p q. ap not (eq-eqb (getD file j 0) (getD (header s) j 0) (h j q)))
+      (ap not (ne-eqb (getD file i 0) (getD (header s) i 0) e))
 
   tested : (t : Tested) → testSet s ≡ t → openTested s file t ≡ Opens → Passed s × (openPassed s file ≡ Opens)
   tested (Tested.States n) q e = (passed s n q, e)
