@@ -4,3 +4,4 @@ pub mod WriteLaws
 pub mod Opening
 pub mod Trips
 pub mod OneSet
+pub mod Figures

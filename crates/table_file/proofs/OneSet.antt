@@ -85,7 +85,7 @@ module _ (s u : Set) (m : Machine s) (n : Machine u) (p : Passed s) (q : Passed 
   byte i k b l e =
       file-header s m p t ht i (omega arith)
       ∙ ⊎-elim (λ h. fixed-at s (m .name) i h ∙ sym (fixed-at u (n .name) i h))
-          (λ h. name-at s (m .name) i h (omega arith) ∙ e (i - 5) (omega arith) ∙ sym (name-at u (n .name) i h (omega arith))) (lt-or-le i 5)
+      (λ h. name-at s (m .name) i h (omega arith) ∙ e (i - 5) (omega arith) ∙ sym (name-at u (n .name) i h (omega arith))) (lt-or-le i 5)
 
   pub other-name : (k : ℕ) → k < 16 → ((j : ℕ) → j < k → getD (s .name) j 0 ≡ getD (u .name) j 0) → (getD (s .name) k 0 ≡ getD (u .name) k 0 → ⊥)
       → openOf u (fileOf s t) ≡ refuse headerDiffers (5 + k)
