@@ -1,9 +1,8 @@
 -- A file opens for one set only, and names that differ are refused where they first differ. Assumes nothing.
-use mathlib.Core.Path.{_≡_, refl, sym, ap, subst, _∙_}
+use mathlib.Core.Path.{_≡_, refl, sym, ap, _∙_}
 use mathlib.Core.Logic.{⊎-elim}
-use mathlib.Core.Bool.{Bool, true, not, cond, _&&_}
 use mathlib.Core.List.{List}
-use Prim.Native.Nat.{ℕ, zero, suc, _+_, _-_, _*_, _/_, _%_, _≤_, _<_}
+use Prim.Native.Nat.{ℕ, _+_, _-_, _*_, _/_, _%_, _≤_, _<_}
 use native.Mathlib.Omega.{arith}
 use lib.Dec.{T, eqb, eqb→eq}
 use lib.ListN.{length, getD}
@@ -13,7 +12,7 @@ use Rattle.tasks.specs.declared.sets.Task.{Task}
 use Rattle.tasks.specs.declared.sets.Set.{Set}
 use Rattle.tasks.specs.Refusals.{headerDiffers}
 use Rattle.tasks.specs.Sets.{noTask, taskAt, blank, statesOf, Passed}
-use Rattle.tasks.proofs.Valid.{Valid, passed-valid}
+use Rattle.tasks.proofs.Valid.{passed-valid}
 use Rattle.table_file.specs.declared.opener.Opened.the-variants.{Opens}
 use Rattle.table_file.specs.Files.{Machine, taskBytes, header, headerLength, fileOf}
 use Rattle.table_file.specs.Open.{present, refuse, openTested, openOf}

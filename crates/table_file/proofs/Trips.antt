@@ -1,42 +1,39 @@
 -- Files and tables, there and back. Assumes nothing.
-use mathlib.Core.Path.{_≡_, refl, sym, ap, ap₂, subst, _∙_}
-use mathlib.Core.Logic.{⊎-elim}
+use mathlib.Core.Path.{_≡_, refl, sym, ap, ap₂, _∙_}
 use mathlib.Core.Bool.{Bool, true, false, not, _&&_, _||_, cond}
-use mathlib.Core.List.{List, [], _∷_, _++_}
-use Prim.Native.Nat.{ℕ, zero, suc, _+_, _-_, _*_, _/_, _%_, _^_, _≤_, _<_}
-use native.Mathlib.Nat.{mod-eq-of-lt, le-of-eq, le-refl}
+use mathlib.Core.List.{List, _++_}
+use Prim.Native.Nat.{ℕ, zero, suc, _+_, _-_, _≤_, _<_}
+use native.Mathlib.Nat.{le-of-eq}
 use native.Mathlib.Omega.{arith}
-use lib.Dec.{T, eqb, ltb, eqb→eq, nltb→le}
-use lib.ListN.{length, getD, take, drop, length-append, take-append-drop, length-drop, List·getD-append, drop-of-length-le}
-use lib.Seq.{length-take-le, take-all, take-at, drop-at, getD-take, getD-drop, ext-getD}
-use borrow.Author.Tests.{lt-ltb, le-ltb}
-use Rattle.arena.specs.Tests.{first, allBelow, imp}
-use Rattle.arena.specs.Arena.{fine}
-use Rattle.arena.proofs.Tests.{and-left, and-right, lt-or-le, allBelow-cong}
+use lib.Dec.{T, eqb, ltb, nltb→le}
+use lib.ListN.{length, getD, take, drop, length-append, take-append-drop, length-drop, List·getD-append}
+use lib.Seq.{length-take-le, take-all, take-at, drop-at, getD-take, ext-getD}
+use borrow.Author.Tests.{le-ltb}
+use Rattle.arena.specs.Tests.{first, imp}
+use Rattle.arena.proofs.Tests.{allBelow-cong}
 use Rattle.arena.proofs.Rounds.{fine-cong}
 use Rattle.tasks.specs.declared.refusals.Refusal.{Refusal}
-use Rattle.tasks.specs.declared.sets.Task.{Task}
 use Rattle.tasks.specs.declared.sets.Set.{Set}
 use Rattle.tasks.specs.declared.sets.Tested.{Tested}
 use Rattle.tasks.specs.declared.sets.Tested.the-variants as Tested
 use Rattle.tasks.specs.Refusals.{bufferTooShort, testFailed}
-use Rattle.tasks.specs.Sets.{noTask, taskAt, blank, statesOf, testSet, Passed}
-use Rattle.tasks.proofs.Valid.{Valid, valid, passed, passed-valid}
+use Rattle.tasks.specs.Sets.{statesOf, testSet, Passed}
+use Rattle.tasks.proofs.Valid.{valid, passed}
 use Rattle.game.specs.Game.{arenaOf}
 use Rattle.game.proofs.Sound.{sound}
 use Rattle.shield.specs.declared.tester.Verdict.the-variants.{Passes}
 use Rattle.shield.specs.declared.tester.Verdict.{Verdict}
 use Rattle.shield.specs.declared.tester.Verdict.the-variants as Verdict
 use Rattle.shield.specs.Entries.{names, entryAt, live}
-use Rattle.shield.specs.Test.{faulty, firstFault, testPassed, testTested, testOf}
+use Rattle.shield.specs.Test.{faulty, firstFault, testTested, testOf}
 use Rattle.table_file.specs.declared.writer.Written.{Written}
 use Rattle.table_file.specs.declared.writer.Written.the-variants.{Length}
 use Rattle.table_file.specs.declared.writer.Written.the-variants as Written
 use Rattle.table_file.specs.declared.opener.Opened.the-variants.{Opens}
-use Rattle.table_file.specs.Files.{Machine, lowFirst, taskBytes, header, headerLength, fileOf, fileLength}
+use Rattle.table_file.specs.Files.{Machine, header, headerLength, fileOf, fileLength}
 use Rattle.table_file.specs.Write.{writeVerdict, writeTested, writeOf, fileWritten, Writes}
 use Rattle.table_file.specs.Open.{openOf, partOf, handed}
-use Rattle.table_file.proofs.FileLaws.{header-length, name-at, count-at, task-at, task-kind, task-deadline, task-runs, task-gaps}
+use Rattle.table_file.proofs.FileLaws.{header-length}
 use Rattle.table_file.proofs.WriteLaws.{with-room}
 use Rattle.table_file.proofs.Opening.{Opening, opening, opens}
 

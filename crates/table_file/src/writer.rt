@@ -10,10 +10,10 @@ use tasks::sets::Tested;
 ghost use mathlib.Core.Path.{_≡_};
 ghost use mathlib.Core.List.{_++_};
 ghost use Prim.Native.Nat.{_+_, _≤_};
-ghost use lib.ListN.{length, take, drop};
+ghost use lib.ListN.{length, drop};
 ghost use lib.Seq.{paste};
 ghost use Rattle.tasks.specs.Sets.{statesOf, Passed};
-ghost use Rattle.table_file.specs.Files.{header, headerLength, fileOf, fileLength};
+ghost use Rattle.table_file.specs.Files.{header, headerLength};
 ghost use Rattle.table_file.specs.Write.{tooShort, Writes};
 
 // What the writer answers: the file's length, or the refusal.

@@ -55,9 +55,14 @@ refused-requires-4 : tie.Need-refused-requires-4
 refused-requires-4 c κs = search needs
 
 returns-4 : tie.Need-returns-4
-returns-4 c = let s = c .before .before .before .before .before .before .before .before .before .before .args .s in
-    let f = c .before .before .before .before .before .before .before .before .before .before .args .file .now in
-    c .refused4 .ensures ∙ sym (open-header s f (c .before .before .before .before .before .before .before .before .if1 .left) (omega (arith, c .before .before .before .before .before .before .before .first-difference .ensures, c .before .before .before .before .before .before .if2 .left)) (omega (arith, c .before .before .before .before .before .first-difference2 .ensures, c .before .before .before .before .if3 .left)) (c .before .before .before .bytes-present .result) (c .before .before .first-difference3 .result) (c .before .before .before .bytes-present .ensures) (c .before .before .first-difference3 .ensures) (c .before .if4 .taken))
+returns-4 c = let d = c .before .before in
+    let e = d .before in
+    let b = e .before .before .before in
+    let z = b .before .before .before .before in
+    let s = z .args .s in
+    let f = z .args .file .now in
+    c .refused4 .ensures ∙ sym (open-header s f (b .before .before .if1 .left) (omega (arith, b .before .first-difference .ensures, b .if2 .left)) (omega (arith, e .before .before .first-difference2 .ensures, e .before .if3 .left))
+    (e .bytes-present .result) (d .first-difference3 .result) (e .bytes-present .ensures) (d .first-difference3 .ensures) (c .before .if4 .taken))
 
 header-length-requires : tie.Need-header-length-requires
 header-length-requires c κs = search needs
@@ -75,9 +80,16 @@ refused-requires-5 : tie.Need-refused-requires-5
 refused-requires-5 c κs = search needs
 
 returns-5 : tie.Need-returns-5
-returns-5 c = let s = c .before .before .before .before .before .before .before .before .before .before .before .before .args .s in
-    let f = c .before .before .before .before .before .before .before .before .before .before .before .before .args .file .now in
-    c .refused5 .ensures ∙ sym (open-length s f (c .before .before .before .before .before .before .before .before .before .before .if1 .left) (omega (arith, c .before .before .before .before .before .before .before .before .before .first-difference .ensures, c .before .before .before .before .before .before .before .before .if2 .left)) (omega (arith, c .before .before .before .before .before .before .before .first-difference2 .ensures, c .before .before .before .before .before .before .if3 .left)) (c .before .before .before .before .before .bytes-present .result) (c .before .before .before .before .first-difference3 .result) (c .before .before .before .before .before .bytes-present .ensures) (c .before .before .before .before .first-difference3 .ensures) (c .before .before .before .if4 .left) _ (omega (arith, c .before .before .header-length .ensures, c .before .before .before .before .before .before .before .before .before .before .before .before .pre .1)) (c .before .if5 .taken))
+returns-5 c = let d = c .before .before .before .before in
+    let e = d .before in
+    let b = e .before .before .before in
+    let z = b .before .before .before .before in
+    let s = z .args .s in
+    let f = z .args .file .now in
+    let h = c .before .before .header-length in
+    c .refused5 .ensures ∙ sym (open-length s f (b .before .before .if1 .left) (omega (arith, b .before .first-difference .ensures, b .if2 .left)) (omega (arith, e .before .before .first-difference2 .ensures, e .before .if3 .left))
+    (e .bytes-present .result) (d .first-difference3 .result) (e .bytes-present .ensures) (d .first-difference3 .ensures) (c .before .before .before .if4 .left)
+    _ (omega (arith, h .ensures, z .pre .1)) (c .before .if5 .taken))
 
 sub-test : tie.Need-sub-test
 sub-test c = search needs
@@ -98,14 +110,28 @@ enum-told : tie.Need-enum-told
 enum-told c = search needs
 
 returns-6 : tie.Need-returns-6
-returns-6 c = let s = c .before .before .before .before .before .before .before .before .before .before .before .before .before .before .before .before .args .s in
-    let f = c .before .before .before .before .before .before .before .before .before .before .before .before .before .before .before .before .args .file .now in
-    ap openVerdict (sym (c .before .verdict .given .1)) ∙ sym (open-test s f (c .before .before .before .before .before .before .before .before .before .before .before .before .before .before .if1 .left) (omega (arith, c .before .before .before .before .before .before .before .before .before .before .before .before .before .first-difference .ensures, c .before .before .before .before .before .before .before .before .before .before .before .before .if2 .left)) (omega (arith, c .before .before .before .before .before .before .before .before .before .before .before .first-difference2 .ensures, c .before .before .before .before .before .before .before .before .before .before .if3 .left)) (c .before .before .before .before .before .before .before .before .before .bytes-present .result) (c .before .before .before .before .before .before .before .before .first-difference3 .result) (c .before .before .before .before .before .before .before .before .before .bytes-present .ensures) (c .before .before .before .before .before .before .before .before .first-difference3 .ensures) (c .before .before .before .before .before .before .before .if4 .left) _ (c .before .before .before .before .before .before .header-length .result) (c .before .before .before .test .result) (omega (arith, c .before .before .before .before .before .before .header-length .ensures, c .before .before .before .before .before .before .before .before .before .before .before .before .before .before .before .before .pre .1)) (c .before .before .before .before .before .if5 .left) (c .before .before .before .before .before .before .header-length .ensures) (c .before .before .before .test .ensures))
+returns-6 c = let d = c .before .before .before .before .before .before .before .before in
+    let e = d .before in
+    let b = e .before .before .before in
+    let z = b .before .before .before .before in
+    let s = z .args .s in
+    let f = z .args .file .now in
+    let h = c .before .before .before .before .before .before .header-length in
+    ap openVerdict (sym (c .before .verdict .given .1)) ∙ sym (open-test s f (b .before .before .if1 .left) (omega (arith, b .before .first-difference .ensures, b .if2 .left)) (omega (arith, e .before .before .first-difference2 .ensures, e .before .if3 .left))
+    (e .bytes-present .result) (d .first-difference3 .result) (e .bytes-present .ensures) (d .first-difference3 .ensures) (c .before .before .before .before .before .before .before .if4 .left)
+    _ (h .result) (c .before .before .before .test .result) (omega (arith, h .ensures, z .pre .1)) (c .before .before .before .before .before .if5 .left) (h .ensures) (c .before .before .before .test .ensures))
 
 returns-7 : tie.Need-returns-7
-returns-7 c = let s = c .before .before .before .before .before .before .before .before .before .before .before .before .before .before .before .args .s in
-    let f = c .before .before .before .before .before .before .before .before .before .before .before .before .before .before .before .args .file .now in
-    ap openVerdict (sym (c .enum-told .given .1)) ∙ sym (open-test s f (c .before .before .before .before .before .before .before .before .before .before .before .before .before .if1 .left) (omega (arith, c .before .before .before .before .before .before .before .before .before .before .before .before .first-difference .ensures, c .before .before .before .before .before .before .before .before .before .before .before .if2 .left)) (omega (arith, c .before .before .before .before .before .before .before .before .before .before .first-difference2 .ensures, c .before .before .before .before .before .before .before .before .before .if3 .left)) (c .before .before .before .before .before .before .before .before .bytes-present .result) (c .before .before .before .before .before .before .before .first-difference3 .result) (c .before .before .before .before .before .before .before .before .bytes-present .ensures) (c .before .before .before .before .before .before .before .first-difference3 .ensures) (c .before .before .before .before .before .before .if4 .left) _ (c .before .before .before .before .before .header-length .result) (c .before .before .test .result) (omega (arith, c .before .before .before .before .before .header-length .ensures, c .before .before .before .before .before .before .before .before .before .before .before .before .before .before .before .pre .1)) (c .before .before .before .before .if5 .left) (c .before .before .before .before .before .header-length .ensures) (c .before .before .test .ensures))
+returns-7 c = let d = c .before .before .before .before .before .before .before in
+    let e = d .before in
+    let b = e .before .before .before in
+    let z = b .before .before .before .before in
+    let s = z .args .s in
+    let f = z .args .file .now in
+    let h = c .before .before .before .before .before .header-length in
+    ap openVerdict (sym (c .enum-told .given .1)) ∙ sym (open-test s f (b .before .before .if1 .left) (omega (arith, b .before .first-difference .ensures, b .if2 .left)) (omega (arith, e .before .before .first-difference2 .ensures, e .before .if3 .left))
+    (e .bytes-present .result) (d .first-difference3 .result) (e .bytes-present .ensures) (d .first-difference3 .ensures) (c .before .before .before .before .before .before .if4 .left)
+    _ (h .result) (c .before .before .test .result) (omega (arith, h .ensures, z .pre .1)) (c .before .before .before .before .if5 .left) (h .ensures) (c .before .before .test .ensures))
 
 pub verdict-passed-spec : {M : Type 1} → statement M
 verdict-passed-spec =

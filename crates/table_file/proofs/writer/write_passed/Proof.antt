@@ -62,10 +62,15 @@ same-length : tie.Need-same-length
 same-length c = search needs
 
 returns-4 : tie.Need-returns-4
-returns-4 c = let a = c .before .before .before .before .before .before .before .before .before .before .before .before .before .before .before .before .args in
-    let e = c .before .before .before .before .before .before .before .before .before .before .before .before .header-length .ensures in
+returns-4 c = let p = c .before .before .before .before .before .before in
+    let t = p .before .before .before .before in
+    let h = t .before .before in
+    let b = h .before .before .before .before in
+    let a = b .args in
     let name : length (a .s .name) ≡ 16 = search needs in
-    written (a .s) (c .before .before .before .before .before .before .before .before .before .before .before .before .before .before .before .before .pre .0) (a .table .now) (a .file .now) (omega (arith, c .before .before .before .before .before .before .before .before .before .before .before .before .before .before .before .before .pre .1, c .before .before .before .before .before .before .before .before .before .before .before .before .before .if1 .left)) (omega (arith, e, c .before .before .before .before .before .before .before .before .before .before .before .before .before .before .before .before .pre .1, c .before .before .before .before .before .before .before .before .before .before .before .if2 .left)) _ (a .n) (c .before .before .before .before .before .before .put-header .last .1 .1 .0) _ (header-length (a .s) name) (sym (c .before .before .before .before .before .before .before .before .before .before .test .ensures) ∙ c .before .before .before .before .before .before .before .before .enum-told .given .1) e (c .before .before .before .before .before .before .before .before .before .before .before .before .before .before .before .before .pre .1) (c .before .before .before .before .before .before .put-header .ensures) (c .before .before .put-entries .ensures)
+    written (a .s) (b .pre .0) (a .table .now) (a .file .now) (omega (arith, b .pre .1, h .before .if1 .left)) (omega (arith, h .header-length .ensures, b .pre .1, t .before .if2 .left))
+    _ (a .n) (p .put-header .last .1 .1 .0) _ (header-length (a .s) name) (sym (t .test .ensures) ∙ p .before .before .enum-told .given .1) (h .header-length .ensures) (b .pre .1)
+    (p .put-header .ensures) (c .before .before .put-entries .ensures)
 
 pub write-passed-spec : {M : Type 1} → statement M
 write-passed-spec =
