@@ -138,7 +138,7 @@ fn is_late(t: Task, age: u8, job: Job) -> bool
     t.deadline <= age
 }
 
-// What a task can come to in a tick: a miss; an arrival, to local number 0; with no arrival, a job ended or never begun, and a job that stays.
+// What a task can come to in a tick: a miss; an arrival, to local number 0; with no arrival, the run job finished, or all else one tick older.
 pub struct Moves {
     pub misses: bool,
     pub comes: bool,

@@ -23,14 +23,14 @@ use Rattle.game.proofs.Sound.{sound}
 use Rattle.shield.specs.declared.builder.Built.{Built}
 use Rattle.shield.specs.declared.builder.Built.the-variants as Built
 use Rattle.shield.specs.declared.tester.Verdict.the-variants as Verdict
-use Rattle.shield.specs.Entries.{names, entryOf, entryAt, live}
+use Rattle.shield.specs.Entries.{names, entryOf, entryAt, Bytes, live}
 use Rattle.shield.specs.Shield.{shieldTable}
 use Rattle.shield.specs.Build.{buildIf, shortOr, tooShort, buildTested, Builds}
 use Rattle.shield.specs.Test.{faulty, firstFault, testTested, testOf}
 use Rattle.shield.proofs.EntryLaws.{names-marks, marks-zero, list-length, list-at}
 use Rattle.guard.specs.Calls.{Call, saidBy, reached}
 use Rattle.guard.proofs.Moves.{first-none}
-use Rattle.guard.proofs.Safe.{Bytes, Clean, safe-runs}
+use Rattle.guard.proofs.Safe.{Clean, safe-runs}
 
 module _ (s : Set) (q : Passed s) (rest : List ℕ) where
   abbrev table : List ℕ
@@ -101,5 +101,5 @@ module _ (s : Set) (t w t′ w′ : List ℕ) (a b d : ℕ) (B : Builds s t w (B
       let f = done-finished s (length t) (length w) a b d (sym (B .answer)) in
       ap (testOf s) (B .table) ∙ shield-tested s (f .set) (drop (statesOf s) t) (f .safe)
 
-  pub built-runs : Bytes t′ → (reading : ℕ) (cs : List Call) (c : Call) → Clean (saidBy s t′ (reached s t′ reading cs) c)
+  pub built-runs : Bytes (statesOf s) t′ → (reading : ℕ) (cs : List Call) (c : Call) → Clean (saidBy s t′ (reached s t′ reading cs) c)
   built-runs bytes = safe-runs s t′ bytes built-passes

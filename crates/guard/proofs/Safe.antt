@@ -23,7 +23,7 @@ use Rattle.game.specs.Game.{outcomesTo, legalAt, arenaOf}
 use Rattle.game.proofs.StateLaws.{states-pos, state-index}
 use Rattle.shield.specs.declared.tester.Verdict.{Verdict}
 use Rattle.shield.specs.declared.tester.Verdict.the-variants as Verdict
-use Rattle.shield.specs.Entries.{names, entryAt, live}
+use Rattle.shield.specs.Entries.{names, entryAt, Bytes, live}
 use Rattle.shield.specs.Test.{faulty, firstFault, testTested, testOf}
 use Rattle.guard.specs.declared.runs.Awaited.the-variants as Awaited
 use Rattle.guard.specs.declared.runs.Run.{Run}
@@ -37,10 +37,6 @@ use Rattle.guard.proofs.RunLaws.{seven-at, Fits, fits-by, index-fits, o
 use Rattle.guard.proofs.AskLaws.{serves-by, choice-named, choice-legal}
 use Rattle.guard.proofs.Named.{nextTo, named-in, next-go, next-miss}
 use Rattle.guard.proofs.Keeps.{count-le, start-fits, start-run, Ready, ask-case, given-fits, first-hit, none-such, possible-none, named-case, report-case, state-then, after-fits}
-
--- a table is bytes
-abbrev pub Bytes : List ℕ → Type 0
-Bytes table = (i : ℕ) → entryAt table i < 256
 
 -- what the test has found of a table that passes
 pub record Tried (s : Set) (table : List ℕ) : Type 0 where
@@ -114,7 +110,7 @@ fresh-index s v (suc k) h =
     let x : stateAt (seven (startState (s .count))) k ≡ freshState = seven-at noState (startState (s .count)) k (omega arith) ∙ ap (λ b. cond b freshState noState) (lt-ltb k (s .count) h) in
     ap₂ (λ (x : TaskState) (n : ℕ). localOf (taskAt s k) x * statesTo s k + n) x (fresh-index s v k (omega arith)) ∙ omega arith
 
-module _ (s : Set) (table : List ℕ) (w : Tried s table) (bytes : Bytes table) where
+module _ (s : Set) (table : List ℕ) (w : Tried s table) (bytes : Bytes (statesOf s) table) where
   -- what is legal at the index of a run that fits is legal in its states
   legal-for : (r : Run) → Fits s r → (c : ℕ) → T (legalAt s (indexOf s (r .states)) c) → T (legalFor s (r .states) c)
   unfolding legalFor
@@ -152,7 +148,7 @@ module _ (s : Set) (table : List ℕ) (w : Tried s table) (bytes : Bytes table) 
             record {
               fits = given-fits s (w .set) r (g .fits) p _ (d .free) (d .more) (choice-legal s (r .states) e p l v (d .serves));
               live = g .live;
-              named = λ c z. let q : choiceFor s (r .states) e p ≡ c = cc in subst (λ (c : ℕ). T (names e c) × (c < 8)) q (choice-named s (r .states) e p l v (d .serves) (bytes (indexOf s (r .states))));
+              named = λ c z. let q : choiceFor s (r .states) e p ≡ c = cc in subst (λ (c : ℕ). T (names e c) × (c < 8)) q (choice-named s (r .states) e p l v (d .serves) (bytes (indexOf s (r .states)) (index-fits s r (g .fits))));
             },
             clean tt tt tt,
           )
@@ -215,14 +211,14 @@ module _ (s : Set) (table : List ℕ) (w : Tried s table) (bytes : Bytes table) 
   good-reached reading cs = good-runs _ (subst (λ (r : Run). Good s table r) (sym (start-run s (w .set) reading)) (good-start reading)) cs
 
 -- for every table that the tester passes, after any calls from the start: no call is refused with 16, 19 or 21
-pub safe-runs : (s : Set) (table : List ℕ) → Bytes table → testOf s table ≡ Verdict.Passes
+pub safe-runs : (s : Set) (table : List ℕ) → Bytes (statesOf s) table → testOf s table ≡ Verdict.Passes
     → (reading : ℕ) (cs : List Call) (c : Call) → Clean (saidBy s table (reached s table reading cs) c)
 safe-runs s table b p reading cs c =
     let w = passes-tried s table p in
     good-call s table w b (reached s table reading cs) (good-reached s table w b reading cs) c .1
 
 -- and up to the tick limit every ask with nothing awaited and a proposal within the tasks is answered
-pub safe-answers : (s : Set) (table : List ℕ) → Bytes table → testOf s table ≡ Verdict.Passes
+pub safe-answers : (s : Set) (table : List ℕ) → Bytes (statesOf s) table → testOf s table ≡ Verdict.Passes
     → (reading : ℕ) (cs : List Call) (p : ℕ) → p ≤ s .count
     → reached s table reading cs .awaited ≡ Awaited.Nothing → reached s table reading cs .ticks < tickLimit
     → (c : ℕ) × (askOf s table (reached s table reading cs) p .answer ≡ Choice c)

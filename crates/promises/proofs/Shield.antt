@@ -31,12 +31,12 @@ use Rattle.shield.specs.declared.builder.Built.the-variants.{Refused}
 use Rattle.shield.specs.declared.tester.Verdict.{Verdict}
 use Rattle.shield.specs.declared.tester.Verdict.the-variants.{Passes}
 use Rattle.shield.specs.declared.tester.Verdict.the-variants as Verdict
-use Rattle.shield.specs.Entries.{names, entryOf, entryAt}
+use Rattle.shield.specs.Entries.{names, entryOf, entryAt, Bytes}
 use Rattle.shield.specs.Shield.{shieldTable}
 use Rattle.shield.specs.Build.{buildIf, buildTested, tableBuilt, Builds, saidBuilt}
 use Rattle.shield.specs.Test.{firstFault, testTested, testOf, saidVerdict}
-use Rattle.shield.proofs.EntryLaws.{names-marks, list-length, list-at}
-use Rattle.promises.proofs.Tables.{namesIn, Bytes, tested-iff, tested-passed}
+use Rattle.shield.proofs.EntryLaws.{marks-lt, names-marks, list-length, list-at}
+use Rattle.promises.proofs.Tables.{namesIn, tested-iff, tested-passed}
 
 -- the answers that refuse nothing
 abbrev pub Answered : Built → Type 0
@@ -99,11 +99,16 @@ module _ (s : Set) (t w t′ w′ : List ℕ) (r : Built) (B : Builds s t w r t�
   built-table : t′ ≡ shieldTable s ++ drop (statesOf s) t
   built-table = B .table ∙ ap (λ r. tableBuilt s r t) (M .done)
 
+  built-entry : (i : ℕ) → i < statesOf s → entryAt t′ i ≡ entryOf (shield (arenaOf s) i)
+  built-entry i h = ap (λ l. entryAt l i) built-table ∙ list-at (λ i. entryOf (shield (arenaOf s) i)) (statesOf s) (drop (statesOf s) t) i h
+
   -- the built table names what the shield names
   built-names : (i k : ℕ) → i < statesOf s → k < 8 → namesIn t′ i k ≡ shield (arenaOf s) i k
   built-names i k h l =
-      ap (λ l. names (entryAt l i) k) built-table ∙ ap (λ e. names e k) (list-at (λ i. entryOf (shield (arenaOf s) i)) (statesOf s) (drop (statesOf s) t) i h)
-      ∙ names-marks 8 (shield (arenaOf s) i) k l
+      ap (λ e. names e k) (built-entry i h) ∙ names-marks 8 (shield (arenaOf s) i) k l
+
+  built-bytes : Bytes (statesOf s) t′
+  built-bytes i h = subst (λ (e : ℕ). e < 256) (sym (built-entry i h)) (marks-lt 8 (shield (arenaOf s) i))
 
   -- EXACT: bit k of a built entry is set if and only if the choice k is legal in the state and, after each of its outcomes, none a
   -- miss, some scheduler never misses
@@ -117,11 +122,11 @@ module _ (s : Set) (t w t′ w′ : List ℕ) (r : Built) (B : Builds s t w r t�
       (λ n. e .0 (subst T (built-names i k h l) n), λ w. subst T (sym (built-names i k h l)) (e .1 w))
 
   -- PASSES: the built table passes the tester
-  pub built-passes : Bytes t′ → TestPasses s t′
+  pub built-passes : TestPasses s t′
   unfolding arenaOf
-  built-passes bytes =
+  built-passes =
       ap (λ v. saidVerdict v .number)
-      (tested-iff s (M .set) t′ bytes room .0 (subst T (sym same) (Exact.shield-iff (arenaOf s) (sound s (M .set)) .1 (subst T (sym (M .start)) tt))))
+      (tested-iff s (M .set) t′ built-bytes room .0 (subst T (sym same) (Exact.shield-iff (arenaOf s) (sound s (M .set)) .1 (subst T (sym (M .start)) tt))))
     where
       room : statesOf s ≤ length t′
       room = omega (arith, ap length built-table ∙ length-append (shieldTable s) (drop (statesOf s) t), list-length (λ i. entryOf (shield (arenaOf s) i)) (statesOf s))
@@ -130,7 +135,7 @@ module _ (s : Set) (t w t′ w′ : List ℕ) (r : Built) (B : Builds s t w r t�
       same = passes-cong (arenaOf s) (sound s (M .set)) (namesIn t′) (shield (arenaOf s)) built-names
 
   -- LARGEST: each entry of a table that passes, from any maker, is within the built one's
-  pub largest : (table : List ℕ) → Bytes table → TestPasses s table
+  pub largest : (table : List ℕ) → Bytes (statesOf s) table → TestPasses s table
       → (i k : ℕ) → i < statesOf s → k < 8 → T (names (entryAt table i) k) → T (names (entryAt t′ i) k)
   unfolding arenaOf
   largest table bytes e i k h l n =
@@ -181,7 +186,7 @@ module _ (s : Set) (p : Passed s) (t w t′ w′ : List ℕ) (ht : statesOf s �
       (λ σ. subst (λ (k : ℕ). MissesIn k σ [] 0) (sym (u .1)) (f .0 σ), λ j h. f .1 j (subst (λ (k : ℕ). j < k) (u .1) h))
 
   -- NONE: if it is refused with 8, no table passes
-  pub none-passes : NoSchedule r → (table : List ℕ) → Bytes table → TestPasses s table → ⊥
+  pub none-passes : NoSchedule r → (table : List ℕ) → Bytes (statesOf s) table → TestPasses s table → ⊥
   unfolding arenaOf
   none-passes n table bytes e =
       let v = passing s table e in

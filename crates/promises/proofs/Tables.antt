@@ -23,7 +23,7 @@ use Rattle.game.specs.Game.{arenaOf}
 use Rattle.game.proofs.Sound.{sound}
 use Rattle.shield.specs.declared.tester.Verdict.{Verdict}
 use Rattle.shield.specs.declared.tester.Verdict.the-variants.{Passes, Refused}
-use Rattle.shield.specs.Entries.{names, entryAt, live}
+use Rattle.shield.specs.Entries.{names, entryAt, Bytes, live}
 use Rattle.shield.specs.Test.{faulty, firstFault, testPassed, testTested, testOf}
 use Rattle.shield.proofs.EntryLaws.{names-none}
 
@@ -31,23 +31,19 @@ use Rattle.shield.proofs.EntryLaws.{names-none}
 abbrev pub namesIn : List ℕ → ℕ → ℕ → Bool
 namesIn table i c = names (entryAt table i) c
 
--- every entry is a byte, as in every buffer
-abbrev pub Bytes : List ℕ → Type 0
-Bytes table = (i : ℕ) → entryAt table i < 256
-
-module _ (s : Set) (p : Passed s) (table : List ℕ) (bytes : Bytes table) where
-  live-used : (i : ℕ) → live table i ≡ used (arenaOf s) (namesIn table) i
+module _ (s : Set) (p : Passed s) (table : List ℕ) (bytes : Bytes (statesOf s) table) where
+  live-used : (i : ℕ) → i < statesOf s → live table i ≡ used (arenaOf s) (namesIn table) i
   unfolding arenaOf
-  live-used i = names-none (entryAt table i) (bytes i)
+  live-used i h = names-none (entryAt table i) (bytes i h)
 
   -- an entry is not faulty exactly if the game's test finds nothing at its state
   sound-entry : (i : ℕ) → i < statesOf s → allBelow 8 (λ c. imp (names (entryAt table i) c) (fine (arenaOf s) (live table) i c)) ≡ guards (arenaOf s) (namesIn table) i
   unfolding arenaOf
-  sound-entry i h = allBelow-cong 8 _ _ (λ c l. ap (imp (names (entryAt table i) c)) (fine-cong (arenaOf s) (sound s p) _ _ (λ t b. live-used t) i c h))
+  sound-entry i h = allBelow-cong 8 _ _ (λ c l. ap (imp (names (entryAt table i) c)) (fine-cong (arenaOf s) (sound s p) _ _ live-used i c h))
 
   faulty-at : (i : ℕ) → i < statesOf s → faulty s table i ≡ ((eqb i 0 && not (used (arenaOf s) (namesIn table) i)) || not (guards (arenaOf s) (namesIn table) i))
   unfolding faulty
-  faulty-at i h = ap₂ (λ x y. (eqb i 0 && not x) || not y) (live-used i) (sound-entry i h)
+  faulty-at i h = ap₂ (λ x y. (eqb i 0 && not x) || not y) (live-used i h) (sound-entry i h)
 
 -- a first number below the end is one that passes
 first-hit : (f : ℕ → Bool) (n k : ℕ) → first f n k < k + n → T (f (first f n k))
@@ -64,7 +60,7 @@ nor : (a b : Bool) → T (not (a || b)) → T (not a) × T (not b)
 nor true b t = absurd t
 nor false b t = (tt, t)
 
-module _ (s : Set) (p : Passed s) (table : List ℕ) (bytes : Bytes table) where
+module _ (s : Set) (p : Passed s) (table : List ℕ) (bytes : Bytes (statesOf s) table) where
   none-faulty : T (passes (arenaOf s) (namesIn table)) → (i : ℕ) → i < statesOf s → T (not (faulty s table i))
   unfolding arenaOf
   none-faulty t i h =

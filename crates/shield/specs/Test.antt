@@ -9,7 +9,7 @@ use Rattle.arena.specs.Arena.{fine}
 use Rattle.tasks.specs.declared.sets.Set.{Set}
 use Rattle.tasks.specs.declared.sets.Tested.{Tested}
 use Rattle.tasks.specs.declared.sets.Tested.the-variants as Tested
-use Rattle.tasks.specs.Refusals.{Said, answered, refusing, bufferTooShort, testFailed}
+use Rattle.tasks.specs.Refusals.{Said, answered, refusing, short, testFailed}
 use Rattle.tasks.specs.Sets.{statesOf, testSet}
 use Rattle.game.specs.Game.{arenaOf}
 use Rattle.shield.specs.declared.tester.Verdict.{Verdict}
@@ -28,7 +28,7 @@ firstFault s table = first (faulty s table) (statesOf s) 0
 
 abbrev pub testPassed : Set → List ℕ → ℕ → Verdict
 testPassed s table S =
-    cond (ltb (length table) S) (Refused (record { number = bufferTooShort; place = S }))
+    cond (ltb (length table) S) (Refused (short S))
     (cond (ltb (firstFault s table) S) (Refused (record { number = testFailed; place = firstFault s table })) Passes)
 
 abbrev pub testTested : Set → List ℕ → Tested → Verdict

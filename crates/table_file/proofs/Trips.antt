@@ -16,7 +16,7 @@ use Rattle.tasks.specs.declared.refusals.Refusal.{Refusal}
 use Rattle.tasks.specs.declared.sets.Set.{Set}
 use Rattle.tasks.specs.declared.sets.Tested.{Tested}
 use Rattle.tasks.specs.declared.sets.Tested.the-variants as Tested
-use Rattle.tasks.specs.Refusals.{bufferTooShort, testFailed}
+use Rattle.tasks.specs.Refusals.{short, testFailed}
 use Rattle.tasks.specs.Sets.{statesOf, testSet, Passed}
 use Rattle.tasks.proofs.Valid.{valid, passed}
 use Rattle.game.specs.Game.{arenaOf}
@@ -47,7 +47,7 @@ judged : (s : Set) → Passed s → (t : List ℕ) → statesOf s ≤ length t
     → testOf s t ≡ cond (ltb (firstFault s t) (statesOf s)) (Verdict.Refused (record { number = testFailed; place = firstFault s t })) Passes
 judged s p t h =
     ap (testTested s t) p
-    ∙ ap (λ b. cond b (Verdict.Refused (record { number = bufferTooShort; place = statesOf s })) (cond (ltb (firstFault s t) (statesOf s)) (Verdict.Refused (record { number = testFailed; place = firstFault s t })) Passes)) (le-ltb (length t) (statesOf s) h)
+    ∙ ap (λ b. cond b (Verdict.Refused (short (statesOf s))) (cond (ltb (firstFault s t) (statesOf s)) (Verdict.Refused (record { number = testFailed; place = firstFault s t })) Passes)) (le-ltb (length t) (statesOf s) h)
 
 module _ (s : Set) (p : Passed s) (t u : List ℕ) (same : (i : ℕ) → i < statesOf s → entryAt t i ≡ entryAt u i) where
   alive : (i : ℕ) → i < statesOf s → live t i ≡ live u i

@@ -152,34 +152,40 @@ passes s v =
     beyond : (j : ℕ) → j < 0 + 7 → s .count ≤ j → faultAt s j ≡ 0
     beyond j l h = fault-beyond s j h ∙ ap (λ b. cond b 0 badRecord) (T-true (blank (taskAt s j)) (v .blanks j h (omega arith)))
 
--- a refusal of a set has a number of 1 to 6
-cond-le : (b : Bool) (x y m : ℕ) → x ≤ m → y ≤ m → cond b x y ≤ m
-cond-le true x y m p q = p
-cond-le false x y m p q = q
+-- a refusal of a set has a number of 3 to 6
+abbrev Number : ℕ → Type 0
+Number n = 0 < n → (3 ≤ n) × (n ≤ 6)
 
-refuse-number : (n p : ℕ) (t : Tested) (m : ℕ) → n ≤ m → ((f : Refusal) → t ≡ Refused f → (1 ≤ f .number) × (f .number ≤ m))
-    → (f : Refusal) → refuseOr n p t ≡ Refused f → (1 ≤ f .number) × (f .number ≤ m)
-refuse-number zero p t m h r f e = r f e
-refuse-number (suc n) p t m h r f e =
+none : Number 0
+none h = let z : ⊥ = omega arith in absurd z
+
+cond-number : (b : Bool) (x y : ℕ) → Number x → Number y → Number (cond b x y)
+cond-number true x y p q = p
+cond-number false x y p q = q
+
+refuse-number : (n p : ℕ) (t : Tested) → Number n → ((f : Refusal) → t ≡ Refused f → (3 ≤ f .number) × (f .number ≤ 6))
+    → (f : Refusal) → refuseOr n p t ≡ Refused f → (3 ≤ f .number) × (f .number ≤ 6)
+refuse-number zero p t h r f e = r f e
+refuse-number (suc n) p t h r f e =
     let q : record { number = suc n; place = p } ≡ f = cc in
-    subst (λ (g : Refusal). (1 ≤ g .number) × (g .number ≤ m)) q (omega arith, h)
+    subst (λ (g : Refusal). (3 ≤ g .number) × (g .number ≤ 6)) q (h (omega arith))
 
-fault-number : (s : Set) (i : ℕ) → faultAt s i ≤ 6
+fault-number : (s : Set) (i : ℕ) → Number (faultAt s i)
 unfolding faultAt faultOf
 fault-number s i =
     let τ = taskAt s i in
-    cond-le (ltb i (s .count)) _ _ 6
-    (cond-le (unfit τ) 3 _ 6 (omega arith) (cond-le (ltb (τ .deadline) (cmax τ)) 4 _ 6 (omega arith) (cond-le (ltb (shortestOf (τ .gaps)) (τ .deadline)) 5 0 6 (omega arith) (omega arith))))
-    (cond-le (blank τ) 0 3 6 (omega arith) (omega arith))
+    cond-number (ltb i (s .count)) _ _
+    (cond-number (unfit τ) 3 _ (λ _. (omega arith, omega arith)) (cond-number (ltb (τ .deadline) (cmax τ)) 4 _ (λ _. (omega arith, omega arith)) (cond-number (ltb (shortestOf (τ .gaps)) (τ .deadline)) 5 0 (λ _. (omega arith, omega arith)) none)))
+    (cond-number (blank τ) 0 3 none (λ _. (omega arith, omega arith)))
 
-pub refused-number : (s : Set) (f : Refusal) → testSet s ≡ Refused f → (1 ≤ f .number) × (f .number ≤ 6)
+pub refused-number : (s : Set) (f : Refusal) → testSet s ≡ Refused f → (3 ≤ f .number) × (f .number ≤ 6)
 unfolding testSet testStates lowestFault
 refused-number s =
-    refuse-number _ 0 _ 6 (cond-le (goodName (s .name) && within 1 7 (s .count)) 0 3 6 (omega arith) (omega arith)) (faults 7 0)
+    refuse-number _ 0 _ (cond-number (goodName (s .name) && within 1 7 (s .count)) 0 3 none (λ _. (omega arith, omega arith))) (faults 7 0)
   where
-    states : (f : Refusal) → testStates s ≡ Refused f → (1 ≤ f .number) × (f .number ≤ 6)
-    states = refuse-number _ 0 (States (statesOf s)) 6 (cond-le (ltb 60000 (statesOf s)) 6 0 6 (omega arith) (omega arith)) (λ f e. let z : _≡_ {A = ℕ} 0 1 = cc in absurd (omega arith))
+    states : (f : Refusal) → testStates s ≡ Refused f → (3 ≤ f .number) × (f .number ≤ 6)
+    states = refuse-number _ 0 (States (statesOf s)) (cond-number (ltb 60000 (statesOf s)) 6 0 (λ _. (omega arith, omega arith)) none) (λ f e. let z : _≡_ {A = ℕ} 0 1 = cc in absurd (omega arith))
 
-    faults : (k i : ℕ) → (f : Refusal) → lowestFault s k i (testStates s) ≡ Refused f → (1 ≤ f .number) × (f .number ≤ 6)
+    faults : (k i : ℕ) → (f : Refusal) → lowestFault s k i (testStates s) ≡ Refused f → (3 ≤ f .number) × (f .number ≤ 6)
     faults zero i = states
-    faults (suc k) i = refuse-number (faultAt s i) (suc i) _ 6 (fault-number s i) (faults k (suc i))
+    faults (suc k) i = refuse-number (faultAt s i) (suc i) _ (fault-number s i) (faults k (suc i))

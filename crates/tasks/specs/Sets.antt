@@ -30,7 +30,7 @@ unfoldable pub zeros : List ℕ → Bool
 zeros [] = true
 zeros (b ∷ l) = eqb b 0 && zeros l
 
--- a name of at least one character, its bytes beyond the last zero
+-- a name of at least one character, its bytes beyond the last zero; that it has 16 bytes is the record's type
 unfoldable pub goodName : List ℕ → Bool
 goodName name = ltb 0 (characters name) && zeros (drop (characters name) name)
 

@@ -125,7 +125,7 @@ end-ok : (t : ℕ) (j : walk-on-lts.Joined5 (calls t) (walk-on-at t) walk-on.Pos
 end-ok t j =
     let m = j .before .before in
     let b = m .before .before .moves-of .result .ends in
-    ⊎-elim (λ w. imp-on b _ (sym (w .2 .ensures) ∙ not-false _ (w .3 .left))) (λ w. imp-off b _ (w .left)) (j .if5 .came)
+    ⊎-elim {C = imp b (good t m (m .before .before .moves-of .result .ended)) ≡ true} (λ w. imp-on b _ (sym (w .2 .ensures) ∙ not-false _ (w .3 .left))) (λ w. imp-off b _ (w .left)) (j .if5 .came)
 
 shared-slice-read-result : (t : ℕ) → walk-on-lts.Need-shared-slice-read-result (calls t) (walk-on-at t) walk-on.Post
 shared-slice-read-result t c =
