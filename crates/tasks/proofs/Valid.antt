@@ -16,7 +16,7 @@ use Rattle.tasks.specs.declared.sets.Tested.the-variants.{States, Refuse
 use Rattle.tasks.specs.Lists.{lengthOf, shortestOf}
 use Rattle.tasks.specs.Refusals.{badRecord, tooManyStates}
 use Rattle.tasks.specs.Sets.{goodName, within, cmax, unfit, blank, faultOf, taskAt, faultAt, statesOf, refuseOr, lowestFault, testStates, testSet, Passed}
-use Rattle.tasks.proofs.SetLaws.{within-both, states-fit}
+use Rattle.tasks.proofs.SetLaws.{within-both, states-by}
 
 -- a task's record: its kind, its deadline, its lists, and the rules between them
 pub record ValidTask (τ : Task) : Type 0 where
@@ -89,13 +89,9 @@ valid-task τ v =
     )
 
 -- a record's fault, by where its number stands to the count
-fault-task : (s : Set) (k : ℕ) → k < s .count → faultAt s k ≡ faultOf (taskAt s k)
+fault-by : (s : Set) (k : ℕ) (b : Bool) → ltb k (s .count) ≡ b → faultAt s k ≡ cond b (faultOf (taskAt s k)) (cond (blank (taskAt s k)) 0 badRecord)
 unfolding faultAt
-fault-task s k h = ap (λ b. cond b (faultOf (taskAt s k)) (cond (blank (taskAt s k)) 0 badRecord)) (lt-ltb k (s .count) h)
-
-fault-beyond : (s : Set) (k : ℕ) → s .count ≤ k → faultAt s k ≡ cond (blank (taskAt s k)) 0 badRecord
-unfolding faultAt
-fault-beyond s k h = ap (λ b. cond b (faultOf (taskAt s k)) (cond (blank (taskAt s k)) 0 badRecord)) (le-ltb k (s .count) h)
+fault-by s k b e = ap (λ b. cond b (faultOf (taskAt s k)) (cond (blank (taskAt s k)) 0 badRecord)) e
 
 -- the records from i on are without fault where the test goes on past them
 faults-none : (s : Set) (k i m : ℕ) (t : Tested) → lowestFault s k i t ≡ States m
@@ -119,8 +115,8 @@ valid s m e =
       record {
         name = and-left (goodName (s .name)) _ n;
         count = c;
-        tasks = λ k h. task-valid (taskAt s k) (sym (fault-task s k h) ∙ f .0 k (omega arith) (omega arith));
-        blanks = λ k h l. cond-then (blank (taskAt s k)) _ (sym (fault-beyond s k h) ∙ f .0 k (omega arith) (omega arith));
+        tasks = λ k h. task-valid (taskAt s k) (sym (fault-by s k true (lt-ltb k (s .count) h)) ∙ f .0 k (omega arith) (omega arith));
+        blanks = λ k h l. cond-then (blank (taskAt s k)) _ (sym (fault-by s k false (le-ltb k (s .count) h)) ∙ f .0 k (omega arith) (omega arith));
         states = nltb→le 60000 (statesOf s) (cond-else (ltb 60000 (statesOf s)) _ 0 (b .0) .0);
       },
       cc,
@@ -144,13 +140,13 @@ pub passes : (s : Set) → Valid s → Passed s
 unfolding testSet
 passes s v =
     simp (T-true (goodName (s .name)) (v .name), le-leb 1 (s .count) (v .count .0), le-leb (s .count) 7 (v .count .1))
-    (none-faults s 7 0 (testStates s) (λ j _ h. ⊎-elim (task j) (beyond j h) (lt-or-le j (s .count))) ∙ states-fit s (v .states))
+    (none-faults s 7 0 (testStates s) (λ j _ h. ⊎-elim (task j) (beyond j h) (lt-or-le j (s .count))) ∙ states-by s false (le-ltb 60000 (statesOf s) (v .states)))
   where
     task : (j : ℕ) → j < s .count → faultAt s j ≡ 0
-    task j h = fault-task s j h ∙ valid-task (taskAt s j) (v .tasks j h)
+    task j h = fault-by s j true (lt-ltb j (s .count) h) ∙ valid-task (taskAt s j) (v .tasks j h)
 
     beyond : (j : ℕ) → j < 0 + 7 → s .count ≤ j → faultAt s j ≡ 0
-    beyond j l h = fault-beyond s j h ∙ ap (λ b. cond b 0 badRecord) (T-true (blank (taskAt s j)) (v .blanks j h (omega arith)))
+    beyond j l h = fault-by s j false (le-ltb j (s .count) h) ∙ ap (λ b. cond b 0 badRecord) (T-true (blank (taskAt s j)) (v .blanks j h (omega arith)))
 
 -- a refusal of a set has a number of 3 to 6
 abbrev Number : ℕ → Type 0
