@@ -57,6 +57,10 @@ beq-fails true false t h = absurd (h tt)
 beq-fails false true t h = (tt, tt)
 beq-fails false false t h = absurd t
 
+pub nor : (a b : Bool) → T (not (a || b)) → T (not a) × T (not b)
+nor true b t = absurd t
+nor false b t = (tt, t)
+
 pub and-left : (a b : Bool) → T (a && b) → T a
 and-left true b t = tt
 and-left false b t = absurd t
@@ -229,3 +233,11 @@ module _ (f : ℕ → Bool) where
   -- among the numbers below a bound
   pub first-below : (n : ℕ) → T (anyBelow n f) → T (f (first f n 0))
   first-below n t = let w = anyBelow-at n f t in first-at n 0 (w .0) (omega arith) (omega (arith, w .1)) (w .2)
+
+  -- a first below the end passes, and where none passes there is none below the end
+  pub first-hit : (n k : ℕ) → first f n k < k + n → T (f (first f n k))
+  first-hit zero k = λ h. let z : ⊥ = omega arith in absurd z
+  first-hit (suc n) k = by-cond (λ m. m < k + suc n → T (f m)) (f k) k (first f n (suc k)) (λ t h. t) (λ _ h. first-hit n (suc k) (omega arith))
+
+  pub first-none : (n : ℕ) → ((j : ℕ) → j < n → f j ≡ false) → n ≤ first f n 0
+  first-none n h = ⊎-elim (λ l. absurd (subst T (h (first f n 0) l) (first-hit n 0 (omega arith)))) (λ l. l) (lt-or-le (first f n 0) n)

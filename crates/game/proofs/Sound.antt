@@ -38,7 +38,7 @@ decision list time h = pick (eqb time (longestOf list)) refl
     pick false e = (false, tt)
 
 -- the generator has a move for a task in range, which is run only if it is runnable
-every-flag : (finishes arrives : Bool) → flagged finishes arrives ∈ flags
+pub every-flag : (finishes arrives : Bool) → flagged finishes arrives ∈ flags
 every-flag true true = List·Memᴰ·head refl
 every-flag true false = List·Memᴰ·tail (List·Memᴰ·head refl)
 every-flag false true = List·Memᴰ·tail (List·Memᴰ·tail (List·Memᴰ·head refl))
