@@ -7,7 +7,7 @@ use Rattle.tasks.specs.declared.sets.Task.{Task}
 use Rattle.tasks.specs.declared.sets.Set.{Set}
 use Rattle.tasks.specs.Lists.{valuesOf}
 use Rattle.tasks.specs.Refusals.{Said}
-use Rattle.tasks.specs.Sets.{noTask}
+use Rattle.tasks.specs.Sets.{noTask, testSet, saidTested}
 use Rattle.game.specs.declared.states.Job.the-variants.{Empty, InHand}
 use Rattle.game.specs.declared.states.TaskState.{TaskState}
 use Rattle.game.specs.States.{indexOf}
@@ -53,6 +53,7 @@ long c = record { name = replicate 15 65 ++ (c ∷ []); count = 1; tasks = hard 
 pub data Question : Type 0 where
   values : ℕ → Question
   index : Set → List TaskState → Question
+  states : Set → Question
   table : Set → Question
   entries : Set → List ℕ → Question
   build : Set → Question
@@ -70,11 +71,12 @@ abbrev saidBy-all : Set → List ℕ → Run → List Call → List ℕ
 saidBy-all s t r [] = []
 saidBy-all s t r (c ∷ cs) = said (saidBy s t r c) ++ saidBy-all s t (runBy s t r c) cs
 
--- the answer: a list's values; an index; a built table, whole or at some indices; what builder, tester, writer and opener say, with
+-- the answer: a list's values; an index; what the test of a set says; a built table, whole or at some indices; what builder, tester, writer and opener say, with
 -- room enough; what each call of a run says, and the index that they lead to
 abbrev pub answer : Question → List ℕ
 answer (values l) = valuesOf l
 answer (index s xs) = indexOf s xs ∷ []
+answer (states s) = said (saidTested (testSet s))
 answer (table s) = shieldTable s
 answer (entries s is) = map (entryAt (shieldTable s)) is
 answer (build s) = said (saidBuilt (buildOf s 60000 60000))
@@ -100,6 +102,7 @@ figures =
     ∷ figure (table (one (hard 1 1 1))) (2 ∷ 1 ∷ [])
     ∷ figure (build (one (hard 1 1 1))) (0 ∷ 0 ∷ 2 ∷ 0 ∷ 2 ∷ [])
     -- P4: source 000, example 1
+    ∷ figure (states example) (0 ∷ 0 ∷ 54 ∷ [])
     ∷ figure (entries example (0 ∷ 21 ∷ 26 ∷ 32 ∷ 4 ∷ [])) (7 ∷ 5 ∷ 2 ∷ 2 ∷ 0 ∷ [])
     ∷ figure (build example) (0 ∷ 0 ∷ 45 ∷ 1 ∷ 7 ∷ [])
     -- P5: two of hard 3 2 4

@@ -12,7 +12,7 @@ ghost use Rattle.tasks.specs.Lists.{listed, longestOf};
 ghost use Rattle.tasks.specs.Sets.{localsOf};
 ghost use Rattle.game.specs.States.{stateOf, givenFits};
 ghost use Rattle.game.specs.Ticks.{flagged, inHand, runnable, allowed, canFinish, can, jobAfter, late, tickOf};
-ghost use Rattle.game.specs.Walk.{every, everyTick};
+ghost use Rattle.game.specs.Walk.{every, everyTick, summary};
 
 // What a tick of a task comes to.
 pub enum Ticked {
@@ -160,6 +160,7 @@ pub fn moves_of(t: Task, run: bool, local: u32) -> Moves
     requires { ⌜ local < localsOf t ⌝ }
     requires { ⌜ (T run → T (inHand (stateOf t local .job))) ⌝ }
     ensures { λ r. ⌜ ((p : ℕ → Bool) → every r p ≡ everyTick t run (stateOf t local) p) ⌝ }
+    ensures exactly { λ r. ⌜ r ≡ summary t run local ⌝ }
 {
     let cmax = lists::longest(t.runs);
     let age = local / (cmax + 1) + 1;

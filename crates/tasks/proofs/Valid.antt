@@ -1,13 +1,13 @@
 -- What a set that passes the test is, rule by rule, and that such a set passes. Assumes nothing.
 use mathlib.Core.Path.{_≡_, refl, sym, ap, subst, _∙_}
 use mathlib.Core.Logic.{⊎-elim}
-use mathlib.Core.Bool.{Bool, true, false, not, _&&_, _||_, cond}
+use mathlib.Core.Bool.{Bool, true, false, not, _&&_, cond}
 use Prim.Native.Nat.{ℕ, zero, suc, _+_, _≤_, _<_}
 use native.Mathlib.Nat.{eq-or-lt-of-le}
 use native.Mathlib.Omega.{arith}
 use lib.Dec.{T, eqb, ltb, nltb→le}
 use borrow.Author.Tests.{lt-ltb, le-ltb, le-leb, ne-eqb}
-use Rattle.arena.proofs.Tests.{and-left, and-right, not-not, lt-or-le, T-true}
+use Rattle.arena.proofs.Tests.{nor, and-left, and-right, not-not, lt-or-le, T-true}
 use Rattle.tasks.specs.declared.refusals.Refusal.{Refusal}
 use Rattle.tasks.specs.declared.sets.Task.{Task}
 use Rattle.tasks.specs.declared.sets.Set.{Set}
@@ -48,10 +48,6 @@ cond-else false n x e = (tt, e)
 cond-then : (b : Bool) (n : ℕ) → cond b 0 (suc n) ≡ 0 → T b
 cond-then true n e = tt
 cond-then false n e = let z : ⊥ = omega arith in absurd z
-
-nor : (a b : Bool) → T (not (a || b)) → T (not a) × T (not b)
-nor true b t = absurd t
-nor false b t = (tt, t)
 
 some : (n : ℕ) → T (not (eqb n 0)) → 0 < n
 some zero t = absurd t
