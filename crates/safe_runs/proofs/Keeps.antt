@@ -1,14 +1,13 @@
 -- A run that start, ask or report gives fits. Assumes nothing.
 use mathlib.Core.Path.{_≡_, refl, sym, ap, subst, _∙_}
-use mathlib.Core.Bool.{Bool, true, false, not, _||_, cond}
+use mathlib.Core.Bool.{Bool, true, false, not, cond}
 use mathlib.Core.List.{List, [], _∷_}
-use Prim.Native.Nat.{ℕ, zero, suc, _+_, _≤_, _<_}
+use Prim.Native.Nat.{ℕ, suc, _+_, _≤_, _<_}
 use native.Mathlib.Omega.{arith}
 use lib.Dec.{T, eqb, leb, ltb, leb→le, ltb→lt, lt→ltb, nltb→le, T-not}
 use lib.ListN.{length}
 use borrow.Author.Tests.{lt-ltb, le-ltb, le-leb, eq-eqb}
-use Rattle.arena.specs.Tests.{first}
-use Rattle.arena.proofs.Tests.{and-left, and-right, and-by, T-true, T-false, first-least}
+use Rattle.arena.proofs.Tests.{nor, and-left, and-right, and-by, T-true, T-false, first-least}
 use Rattle.tasks.specs.declared.sets.Task.{Task}
 use Rattle.tasks.specs.declared.sets.Set.{Set}
 use Rattle.tasks.specs.Refusals.{bufferTooShort, stateDoesNotFit, outOfTurn, ticksUsedUp, proposalAboveCount, badEntry, wrongReading, impossibleOutcome, hardMiss}
@@ -19,21 +18,21 @@ use Rattle.game.specs.declared.states.TaskState.{TaskState}
 use Rattle.game.specs.States.{inRange, noState, stateAt, indexOf}
 use Rattle.game.proofs.ListTests.{cond-case}
 use Rattle.shield.specs.Entries.{entryAt}
 use Rattle.guard.specs.declared.runs.Counts.{Counts}
 use Rattle.guard.specs.declared.runs.Awaited.{Awaited}
 use Rattle.guard.specs.declared.runs.Awaited.the-variants as Awaited
 use Rattle.guard.specs.declared.runs.Run.{Run}
 use Rattle.guard.specs.declared.runs.Taken.the-variants as Taken
 use Rattle.guard.specs.declared.asks.Asked.{Asked}
 use Rattle.guard.specs.declared.reports.Outcome.{Outcome}
 use Rattle.guard.specs.declared.reports.Reported.{Reported}
 use Rattle.guard.specs.Runs.{tickLimit, freshState, freshCounts, noCounts, countsAt, startState, startCounts, startRun, startOf, startTested, sumHolds, placeEmpty, legalFor, awaitedFits, fits, awaits, saidTaken}
 use Rattle.guard.specs.Ask.{serves, choiceFor, askGiven, askRefused, askEntry, askFits, askTested, askOf, saidChosen}
 use Rattle.guard.specs.Report.{nextReading, flagsAt, tickAt, isSuch, firstSuch, strays, impossible, stateAfter, countsAfter, stateThen, countsThen, runAfter, reportRefused, reportNamed, reportAwaited, reportTested, reportOf}
 use Rattle.guard.specs.Calls.{Call, ask, report, saidBy, runBy, runFrom, reached}
 use Rattle.guard.proofs.RunLaws.{seven-at, Fit, Fits, fits-by, open-ticks}
-use Rattle.guard.proofs.AskLaws.{choice-legal}
-use Rattle.guard.proofs.TickSums.{fit-tick}
+use Rattle.safe_runs.proofs.Guarded.{choice-legal}
+use Rattle.safe_runs.proofs.TickSums.{fit-tick}
 
 -- places with the same state and counts fit together
 fit-same : {τ : Task} {ticks : ℕ} (x y : TaskState) (m n : Counts) → x ≡ y → m ≡ n → Fit τ ticks y n → Fit τ ticks x m
@@ -135,27 +134,16 @@ module _ (s : Set) (q : Passed s) (r : Run) (w : Fits s r) where
       ask-case s q table r p (λ a. Fits s (a .run)) (λ _. w) (λ _. w) (λ _. w) (λ _. w) (λ _. w) (λ _. w)
       (λ d. given-fits p _ (d .free) (d .more) (choice-legal s (r .states) _ p (omega (arith, d .within, count-le s q)) (count-le s q) (d .serves)))
 
--- what a report answers, for a set that passes and a run that fits
-pub first-hit : (f : ℕ → Bool) (n k : ℕ) → first f n k < k + n → T (f (first f n k))
-first-hit f zero k h = let z : ⊥ = omega arith in absurd z
-first-hit f (suc n) k h = hit (f k) refl h (first-hit f n (suc k))
-  where
-    hit : (b : Bool) → f k ≡ b → cond b k (first f n (suc k)) < k + suc n → (first f n (suc k) < suc k + n → T (f (first f n (suc k)))) → T (f (cond b k (first f n (suc k))))
-    hit true e h r = subst T (sym e) tt
-    hit false e h r = r (omega arith)
-
+-- no task's tick is such
 module _ (s : Set) (xs : List TaskState) (o : Outcome) where
   pub none-such : (missed : Bool) → s .count ≤ firstSuch s xs o missed → (j : ℕ) → j < s .count → isSuch missed (tickAt s xs o j) ≡ false
   none-such missed h j l = T-false _ (first-least (λ k. isSuch missed (tickAt s xs o k)) (s .count) 0 j (omega arith) (omega arith))
 
   pub possible-none : T (not (impossible s xs o)) → (j : ℕ) → j < s .count → isSuch false (tickAt s xs o j) ≡ false
   unfolding impossible
-  possible-none t = none-such false (nltb→le _ (s .count) (nor-right (strays s o) _ t))
-    where
-      nor-right : (a b : Bool) → T (not (a || b)) → T (not b)
-      nor-right true b t = absurd t
-      nor-right false b t = t
+  possible-none t = none-such false (nltb→le _ (s .count) (nor (strays s o) _ t .1))
 
+-- what a report answers, for a set that passes and a run that fits
 module _ (s : Set) (r : Run) (o : Outcome) (P : Reported → Type 0) where
   pub named-case : (T (impossible s (r .states) o) → P (reportRefused r impossibleOutcome 0))
       → (T (not (impossible s (r .states) o)) → firstSuch s (r .states) o true < s .count → P (reportRefused r hardMiss (suc (firstSuch s (r .states) o true))))

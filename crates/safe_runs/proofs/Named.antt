@@ -2,7 +2,7 @@
 use mathlib.Core.Path.{_≡_, refl, sym, ap, subst, _∙_}
 use mathlib.Core.Logic.{⊎-elim}
 use mathlib.Core.Bool.{Bool, true, false}
-use mathlib.Core.List.{List, [], _∷_, _++_, map, List·Memᴰ·head, List·Memᴰ·tail, List·Memᴰ·cases-cons, Memᴰ·append-left, Memᴰ·append-right}
+use mathlib.Core.List.{List, [], _∷_, _++_, map, List·Memᴰ·head}
 use Prim.Native.Nat.{ℕ, zero, suc, _+_, _*_, _<_}
 use native.Mathlib.Nat.{eq-or-lt-of-le, le-of-suc-le-suc}
 use native.Mathlib.Omega.{arith}
@@ -16,27 +16,13 @@ use Rattle.game.specs.declared.states.TaskState.{TaskState}
 use Rattle.game.specs.declared.ticks.Ticked.{Ticked}
 use Rattle.game.specs.declared.ticks.Ticked.the-variants as Ticked
 use Rattle.game.specs.States.{localOf, stateAt, indexTo, taskStateAt}
-use Rattle.game.specs.Ticks.{flagged, can, tickOf}
+use Rattle.game.specs.Ticks.{can, tickOf}
 use Rattle.game.specs.Game.{gather, flags, movesOf, beside, outcomesTo}
-use Rattle.game.proofs.ListTests.{those-by}
+use Rattle.game.proofs.ListTests.{those-by, map-in, gather-in}
+use Rattle.game.proofs.Sound.{every-flag}
 use Rattle.guard.specs.declared.reports.Outcome as declared
 use Rattle.guard.specs.Report.{flagsAt, seenTo, tickAt, isSuch, stateAfter}
-use Rattle.guard.proofs.TickSums.{tick-can}
-
-map-in : {A B : Type 0} (g : A → B) (l : List A) (a : A) → a ∈ l → g a ∈ map g l
-map-in g [] a m = elim m [ ]
-map-in g (x ∷ l) a m = ⊎-elim (λ e. List·Memᴰ·head (ap g e)) (λ q. List·Memᴰ·tail (map-in g l a q)) (List·Memᴰ·cases-cons m)
-
-gather-in : {A B : Type 0} (g : A → List B) (l : List A) (a : A) (b : B) → a ∈ l → b ∈ g a → b ∈ gather g l
-gather-in g [] a b m q = elim m [ ]
-gather-in g (x ∷ l) a b m q =
-    ⊎-elim (λ e. Memᴰ·append-left (gather g l) (subst (λ y. b ∈ g y) e q)) (λ p. Memᴰ·append-right (g x) (gather-in g l a b p q)) (List·Memᴰ·cases-cons m)
-
-every-flag : (finishes arrives : Bool) → flagged finishes arrives ∈ flags
-every-flag true true = List·Memᴰ·head refl
-every-flag true false = List·Memᴰ·tail (List·Memᴰ·head refl)
-every-flag false true = List·Memᴰ·tail (List·Memᴰ·tail (List·Memᴰ·head refl))
-every-flag false false = List·Memᴰ·tail (List·Memᴰ·tail (List·Memᴰ·tail (List·Memᴰ·head refl)))
+use Rattle.safe_runs.proofs.TickSums.{tick-can}
 
 module _ (s : Set) (xs : List TaskState) (o : declared.Outcome) where
   -- what the first k tasks' ticks come to

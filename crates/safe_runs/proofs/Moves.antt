@@ -2,7 +2,7 @@
 use mathlib.Core.Path.{_≡_, refl, sym, ap, ap₂, subst, _∙_}
 use mathlib.Core.Logic.{_⊎_, inl, inr, ⊎-elim}
 use mathlib.Core.Bool.{Bool, true, false, not, _&&_, _||_, cond}
-use mathlib.Core.List.{List, [], _∷_, _++_, map, List·Memᴰ·head, List·Memᴰ·tail, List·Memᴰ·cases-cons, List·Memᴰ·append-cases, List·Memᴰ·eq-of-singleton}
+use mathlib.Core.List.{List, [], _∷_, _++_, List·Memᴰ·eq-of-singleton}
 use Prim.Native.Nat.{ℕ, zero, suc, _+_, _*_, _/_, _%_, _^_, _≤_, _<_}
 use native.Mathlib.Nat.{eq-or-lt-of-le, le-of-suc-le-suc, div-add-mod', div-eq-of-lt, le-trans, pow-le-pow-right}
 use native.Mathlib.Numerals.{add-one}
@@ -11,10 +11,10 @@ use lib.Dec.{T, eqb, leb, ltb, eqb→eq, ltb→lt}
 use lib.ListN.{length, getD, length-append, List·getD-append}
 use lib.Seq.{ext-getD, getD-at}
 use borrow.Author.Tests.{lt-ltb, le-ltb, eq-eqb, ne-eqb}
-use Rattle.arena.specs.Tests.{_∈_, first}
+use Rattle.arena.specs.Tests.{_∈_}
 use Rattle.arena.specs.Arena.{miss, go, out}
 use Rattle.arena.specs.Arena as arena
-use Rattle.arena.proofs.Tests.{and-left, and-right, T-true, T-false, not-not, decide, lt-or-le, first-least}
+use Rattle.arena.proofs.Tests.{nor, and-left, and-right, T-true, T-false, not-not, decide, lt-or-le, first-least, first-hit, first-none}
 use Rattle.tasks.specs.declared.sets.Task.{Task}
 use Rattle.tasks.specs.declared.sets.Set.{Set}
 use Rattle.tasks.specs.Refusals.{wrongReading, impossibleOutcome, hardMiss, stateDoesNotFit}
@@ -23,41 +23,23 @@ use Rattle.game.specs.declared.states.TaskState.{TaskState}
 use Rattle.game.specs.States.{stateAt, indexOf, taskStateAt}
 use Rattle.game.specs.declared.ticks.Ticked.the-variants.{Impossible, Missed, Next}
 use Rattle.game.specs.Ticks.{Flags, flagged, canFinish, can, jobAfter, late, arrived, tickOf}
-use Rattle.game.specs.Game.{Seen, those, gather, flags, movesOf, beside, outcomesTo, arenaOf}
+use Rattle.game.specs.Game.{Seen, flags, movesOf, beside, outcomesTo, arenaOf}
+use Rattle.game.proofs.ListTests.{those-at, map-at, gather-at}
 use Rattle.game.proofs.Sound.{possible}
 use Rattle.game.proofs.StateLaws.{state-index}
 use Rattle.shield.specs.Entries.{names, marks}
 use Rattle.shield.proofs.EntryLaws.{marks-lt, names-marks, marks-names, marks-cong}
 use Rattle.guard.specs.declared.runs.Awaited.{Awaited}
 use Rattle.guard.specs.declared.runs.Awaited.the-variants as Awaited
 use Rattle.guard.specs.declared.runs.Run.{Run}
 use Rattle.guard.specs.declared.runs.Taken.the-variants as Taken
 use Rattle.guard.specs.declared.reports.Outcome.{Outcome}
 use Rattle.guard.specs.declared.reports.Reported.{Reported}
 use Rattle.guard.specs.Runs.{tickLimit, legalFor, awaitedFits, fits}
 use Rattle.guard.specs.Report.{nextReading, flagsAt, seenTo, tickAt, isSuch, firstSuch, strays, impossible, runAfter, reportRefused, reportNamed, reportAwaited, reportTested, reportOf}
 use Rattle.guard.proofs.RunLaws.{Fits, fits-by}
-use Rattle.guard.proofs.Named.{nextTo, named-in, next-go, next-miss}
-use Rattle.guard.proofs.Keeps.{count-le, first-hit, none-such, possible-none, state-then}
-
--- from a gathered, mapped or picked list back
-gather-at : {A B : Type 0} (g : A → List B) (l : List A) (b : B) → b ∈ gather g l → (a : A) × (a ∈ l) × (b ∈ g a)
-gather-at g [] b m = elim m [ ]
-gather-at g (x ∷ l) b m =
-    ⊎-elim (λ q. (x, List·Memᴰ·head refl, q)) (λ q. let r = gather-at g l b q in (r .0, List·Memᴰ·tail (r .1), r .2)) (List·Memᴰ·append-cases (g x) m)
-
-map-at : {A B : Type 0} (g : A → B) (l : List A) (b : B) → b ∈ map g l → (a : A) × (a ∈ l) × (b ≡ g a)
-map-at g [] b m = elim m [ ]
-map-at g (x ∷ l) b m =
-    ⊎-elim (λ q. (x, List·Memᴰ·head refl, q)) (λ q. let r = map-at g l b q in (r .0, List·Memᴰ·tail (r .1), r .2)) (List·Memᴰ·cases-cons m)
-
-those-at : {A : Type 0} (p : A → Bool) (l : List A) (a : A) → a ∈ those p l → T (p a)
-those-at p [] a m = elim m [ ]
-those-at {A} p (x ∷ l) a m = pick (p x) refl m (those-at p l a)
-  where
-    pick : (b : Bool) → p x ≡ b → a ∈ cond b (x ∷ those p l) (those p l) → (a ∈ those p l → T (p a)) → T (p a)
-    pick true e m r = ⊎-elim (λ q. subst (λ (y : A). T (p y)) (sym q) (subst T (sym e) tt)) r (List·Memᴰ·cases-cons m)
-    pick false e m r = r m
+use Rattle.safe_runs.proofs.Named.{nextTo, named-in, next-go, next-miss}
+use Rattle.safe_runs.proofs.Keeps.{count-le, none-such, possible-none, state-then}
 
 -- no flags
 abbrev noFlags : Flags
@@ -117,14 +99,6 @@ seen-at o (suc n) j h =
     ⊎-elim (λ e. subst (λ (k : ℕ). getD (seenTo o n ++ (flagsAt o n ∷ [])) k noFlags ≡ flagsAt o k) (sym e) (getD-at (seenTo o n) (flagsAt o n) [] noFlags n (seen-size o n)))
     (λ l. List·getD-append (seenTo o n) (flagsAt o n ∷ []) noFlags j (omega (arith, seen-size o n)) ∙ seen-at o n j l)
     (eq-or-lt-of-le (le-of-suc-le-suc h))
-
-nor : (a b : Bool) → T (not (a || b)) → T (not a) × T (not b)
-nor true b t = absurd t
-nor false b t = (tt, t)
-
--- none that passes
-pub first-none : (f : ℕ → Bool) (n : ℕ) → ((j : ℕ) → j < n → f j ≡ false) → n ≤ first f n 0
-first-none f n h = ⊎-elim (λ l. absurd (subst T (h (first f n 0) l) (first-hit f n 0 (omega arith)))) (λ l. l) (lt-or-le (first f n 0) n)
 
 -- what the generator can decide is no impossible tick
 can-such : (τ : Task) (run : Bool) (x : TaskState) (f : Flags) → T (can τ run x f) → isSuch false (tickOf τ run x f) ≡ false

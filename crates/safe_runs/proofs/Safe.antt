@@ -1,6 +1,6 @@
 -- Safe runs: with a table that passes the test, no ask is refused with 16, no report with 19, and no call with 21. Assumes nothing.
 use mathlib.Core.Path.{_≡_, refl, sym, ap, ap₂, subst, _∙_}
-use mathlib.Core.Bool.{Bool, true, false, not, _&&_, _||_, cond}
+use mathlib.Core.Bool.{Bool, true, false, not, _&&_, cond}
 use mathlib.Core.List.{List, [], _∷_}
 use Prim.Native.Nat.{ℕ, zero, suc, _+_, _*_, _≤_, _<_}
 use native.Mathlib.Omega.{arith}
@@ -9,13 +9,14 @@ use lib.ListN.{length}
 use borrow.Author.Tests.{lt-ltb, le-ltb, eq-eqb, ne-eqb}
 use Rattle.arena.specs.Tests.{all, allBelow, imp}
 use Rattle.arena.specs.Arena.{Next, miss, lands, fine}
-use Rattle.arena.proofs.Tests.{and-left, and-right, and-by, not-not, imp-at, allBelow-at, all-at, first-least, T-true}
+use Rattle.arena.proofs.Tests.{nor, and-left, and-right, and-by, not-not, imp-at, allBelow-at, all-at, first-least, first-hit, T-true}
+use Rattle.tasks.specs.declared.refusals.Refusal.{Refusal}
 use Rattle.tasks.specs.declared.sets.Set.{Set}
 use Rattle.tasks.specs.declared.sets.Tested.{Tested}
 use Rattle.tasks.specs.declared.sets.Tested.the-variants as Tested
 use Rattle.tasks.specs.Refusals.{Said, badEntry, hardMiss, stateDoesNotFit}
 use Rattle.tasks.specs.Sets.{taskAt, statesTo, statesOf, testSet, Passed}
-use Rattle.tasks.proofs.Valid.{valid, passed, passed-valid}
+use Rattle.tasks.proofs.Valid.{valid, passed, passed-valid, refused-number}
 use Rattle.game.specs.declared.states.TaskState.{TaskState}
 use Rattle.game.specs.States.{localOf, noState, stateAt, indexTo, indexOf}
 use Rattle.game.specs.Ticks.{runnable}
@@ -24,19 +25,20 @@ use Rattle.game.proofs.StateLaws.{states-pos, state-index}
 use Rattle.shield.specs.declared.tester.Verdict.{Verdict}
 use Rattle.shield.specs.declared.tester.Verdict.the-variants as Verdict
 use Rattle.shield.specs.Entries.{names, entryAt, Bytes, live}
-use Rattle.shield.specs.Test.{faulty, firstFault, testTested, testOf}
+use Rattle.shield.specs.Test.{faulty, firstFault, testTested, saidVerdict}
+use Rattle.promises.proofs.Shield.{TestPasses}
 use Rattle.guard.specs.declared.runs.Awaited.the-variants as Awaited
 use Rattle.guard.specs.declared.runs.Run.{Run}
 use Rattle.guard.specs.declared.asks.Chosen.the-variants.{Choice}
 use Rattle.guard.specs.declared.reports.Outcome.{Outcome}
 use Rattle.guard.specs.Runs.{tickLimit, seven, freshState, startState, startRun, legalFor, fits, awaits, saidTaken}
 use Rattle.guard.specs.Ask.{serves, choiceFor, askGiven, askEntry, askFits, askTested, askOf, saidChosen}
 use Rattle.guard.specs.Report.{isSuch, tickAt, firstSuch, impossible, runAfter, reportOf}
 use Rattle.guard.specs.Calls.{Call, ask, report, saidBy, runBy, runFrom, reached}
 use Rattle.guard.proofs.RunLaws.{seven-at, Fits, fits-by, index-fits, open-ticks}
-use Rattle.guard.proofs.AskLaws.{serves-by, choice-named, choice-legal}
-use Rattle.guard.proofs.Named.{nextTo, named-in, next-go, next-miss}
-use Rattle.guard.proofs.Keeps.{count-le, start-fits, start-run, Ready, ask-case, given-fits, first-hit, none-such, possible-none, named-case, report-case, state-then, after-fits}
+use Rattle.safe_runs.proofs.Guarded.{serves-by, choice-named, choice-legal}
+use Rattle.safe_runs.proofs.Named.{nextTo, named-in, next-go, next-miss}
+use Rattle.safe_runs.proofs.Keeps.{count-le, start-fits, start-run, Ready, ask-case, given-fits, none-such, possible-none, named-case, report-case, state-then, after-fits}
 
 -- what the test has found of a table that passes
 pub record Tried (s : Set) (table : List ℕ) : Type 0 where
@@ -44,18 +46,18 @@ pub record Tried (s : Set) (table : List ℕ) : Type 0 where
   pub long : statesOf s ≤ length table
   pub right : (i : ℕ) → i < statesOf s → T (not (faulty s table i))
 
-cond-passes : (b : Bool) (f : Verdict) (v : Verdict) → (f ≡ Verdict.Passes → ⊥) → cond b f v ≡ Verdict.Passes → T (not b) × (v ≡ Verdict.Passes)
-cond-passes true f v n e = absurd (n e)
-cond-passes false f v n e = (tt, e)
+went-on : (b : Bool) (f : Refusal) (v : Verdict) → 1 ≤ f .number → saidVerdict (cond b (Verdict.Refused f) v) .number ≡ 0 → T (not b) × (saidVerdict v .number ≡ 0)
+went-on true f v h q = absurd (omega arith)
+went-on false f v h q = (tt, q)
 
-pub passes-tried : (s : Set) (table : List ℕ) → testOf s table ≡ Verdict.Passes → Tried s table
+pub passes-tried : (s : Set) (table : List ℕ) → TestPasses s table → Tried s table
 passes-tried s table = by (testSet s) refl
   where
-    by : (t : Tested) → testSet s ≡ t → testTested s table t ≡ Verdict.Passes → Tried s table
-    by (Tested.Refused f) e q = let z : _≡_ {A = ℕ} 0 1 = cc in absurd (omega arith)
+    by : (t : Tested) → testSet s ≡ t → saidVerdict (testTested s table t) .number ≡ 0 → Tried s table
+    by (Tested.Refused f) e q = absurd (omega (arith, refused-number s f e .0))
     by (Tested.States m) e q =
-        let a = cond-passes (ltb (length table) m) _ _ (λ z. let y : _≡_ {A = ℕ} 0 1 = cc in omega arith) q in
-        let b = cond-passes (ltb (firstFault s table) m) _ Verdict.Passes (λ z. let y : _≡_ {A = ℕ} 0 1 = cc in omega arith) (a .1) in
+        let a = went-on (ltb (length table) m) _ _ (omega arith) q in
+        let b = went-on (ltb (firstFault s table) m) _ Verdict.Passes (omega arith) (a .1) in
         let n = valid s m e .1 in
         record {
           set = passed s m e;
@@ -64,20 +66,19 @@ passes-tried s table = by (testSet s) refl
         }
 
 module _ (s : Set) (table : List ℕ) (w : Tried s table) where
-  nor : (a b : Bool) → T (not (a || not b)) → T (not a) × T b
-  nor true b t = absurd t
-  nor false b t = (tt, not-not b t)
+  abbrev named-right : ℕ → ℕ → Bool
+  named-right i c = imp (names (entryAt table i) c) (fine (arenaOf s) (live table) i c)
 
   -- the entry of the start is not zero, and what an entry names is fine
   pub start-live : 0 < statesOf s → T (live table 0)
   unfolding faulty
-  start-live h = not-not (live table 0) (nor (eqb 0 0 && not (live table 0)) (allBelow 8 (λ c. imp (names (entryAt table 0) c) (fine (arenaOf s) (live table) 0 c))) (w .right 0 h) .0)
+  start-live h = not-not (live table 0) (nor (eqb 0 0 && not (live table 0)) (not (allBelow 8 (named-right 0))) (w .right 0 h) .0)
 
   pub named-fine : (i c : ℕ) → i < statesOf s → c < 8 → T (names (entryAt table i) c) → T (fine (arenaOf s) (live table) i c)
   unfolding faulty
-  named-fine i c h l n =
+  named-fine i c h l =
       imp-at (names (entryAt table i) c) (fine (arenaOf s) (live table) i c)
-      (allBelow-at 8 (λ c. imp (names (entryAt table i) c) (fine (arenaOf s) (live table) i c)) (nor (eqb i 0 && not (live table i)) (allBelow 8 (λ c. imp (names (entryAt table i) c) (fine (arenaOf s) (live table) i c))) (w .right i h) .1) c l) n
+      (allBelow-at 8 (named-right i) (not-not (allBelow 8 (named-right i)) (nor (eqb i 0 && not (live table i)) (not (allBelow 8 (named-right i))) (w .right i h) .1)) c l)
 
 -- a run on states where the table is used, with nothing awaited that its entry does not name
 pub record Good (s : Set) (table : List ℕ) (r : Run) : Type 0 where
@@ -211,14 +212,14 @@ module _ (s : Set) (table : List ℕ) (w : Tried s table) (bytes : Bytes (states
   good-reached reading cs = good-runs _ (subst (λ (r : Run). Good s table r) (sym (start-run s (w .set) reading)) (good-start reading)) cs
 
 -- for every table that the tester passes, after any calls from the start: no call is refused with 16, 19 or 21
-pub safe-runs : (s : Set) (table : List ℕ) → Bytes (statesOf s) table → testOf s table ≡ Verdict.Passes
+pub safe-runs : (s : Set) (table : List ℕ) → Bytes (statesOf s) table → TestPasses s table
     → (reading : ℕ) (cs : List Call) (c : Call) → Clean (saidBy s table (reached s table reading cs) c)
 safe-runs s table b p reading cs c =
     let w = passes-tried s table p in
     good-call s table w b (reached s table reading cs) (good-reached s table w b reading cs) c .1
 
 -- and up to the tick limit every ask with nothing awaited and a proposal within the tasks is answered
-pub safe-answers : (s : Set) (table : List ℕ) → Bytes (statesOf s) table → testOf s table ≡ Verdict.Passes
+pub safe-answers : (s : Set) (table : List ℕ) → Bytes (statesOf s) table → TestPasses s table
     → (reading : ℕ) (cs : List Call) (p : ℕ) → p ≤ s .count
     → reached s table reading cs .awaited ≡ Awaited.Nothing → reached s table reading cs .ticks < tickLimit
     → (c : ℕ) × (askOf s table (reached s table reading cs) p .answer ≡ Choice c)

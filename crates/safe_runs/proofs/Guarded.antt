@@ -7,12 +7,15 @@ use Prim.Native.Nat.{ℕ, zero, suc, _+_, _≤_, _<_}
 use native.Mathlib.Nat.{eq-or-lt-of-le, le-of-suc-le-suc}
 use native.Mathlib.Numerals.{add-one}
 use native.Mathlib.Omega.{arith}
-use lib.Dec.{T, ltb, ltb→lt, nltb→le, T-not}
-use Rattle.arena.proofs.Tests.{T-true, T-false, decide}
+use lib.Dec.{T, eqb, ltb, ltb→lt, nltb→le, T-not}
+use borrow.Author.Tests.{ne-eqb}
+use Rattle.arena.proofs.Tests.{T-true, T-false, decide, and-left, and-right, and-by, imp-at, imp-by, allBelow-at, allBelow-by, anyBelow-at}
 use Rattle.tasks.specs.declared.sets.Set.{Set}
 use Rattle.game.specs.declared.states.TaskState.{TaskState}
 use Rattle.shield.specs.Entries.{names}
-use Rattle.guard.specs.Ask.{slack, closer, better, substituteTo, choiceFor}
+use Rattle.shield.proofs.EntryLaws.{names-none}
+use Rattle.guard.specs.Runs.{legalFor}
+use Rattle.guard.specs.Ask.{servesFor, serves, slack, closer, better, substituteTo, choiceFor}
 
 module _ (s : Set) (xs : List TaskState) (e : ℕ) where
   -- of the first n tasks, task b + 1 is allowed, has least D minus age of those allowed, and the lowest number on a tie
@@ -96,3 +99,45 @@ module _ (s : Set) (xs : List TaskState) (e : ℕ) where
   pub choice-other : (p : ℕ) → T (not (names e p)) → Found (s .count) (choiceFor s xs e p)
   unfolding choiceFor
   choice-other p t = subst (λ (c : ℕ). Found (s .count) c) (sym (ap (λ b. cond b p (substituteTo s xs e (s .count))) (T-false (names e p) t))) (substitute-best (s .count))
+
+  -- an entry that serves names only what is legal
+  pub serves-at : T (serves s xs e) → (c : ℕ) → c < 8 → T (names e c) → T (legalFor s xs c)
+  unfolding serves
+  serves-at t c h n = imp-at (names e c) (legalFor s xs c) (allBelow-at 8 (servesFor s xs e) (and-right (not (eqb e 0)) _ t) c h) n
+
+  pub serves-by : (e ≡ 0 → ⊥) → ((c : ℕ) → c < 8 → T (names e c) → T (legalFor s xs c)) → T (serves s xs e)
+  unfolding serves
+  serves-by q h =
+      and-by (not (eqb e 0)) _ (subst (λ b. T (not b)) (sym (ne-eqb e 0 q)) tt)
+      (allBelow-by 8 (servesFor s xs e) (λ c l. imp-by (names e c) (legalFor s xs c) (h c l)))
+
+  module _ (p : ℕ) (l : p ≤ 7) (v : s .count ≤ 7) (t : T (serves s xs e)) where
+    -- the choice is idle or runnable
+    pub choice-legal : T (legalFor s xs (choiceFor s xs e p))
+    unfolding legalFor
+    choice-legal = ⊎-elim
+        (λ n. subst (λ (c : ℕ). T (legalFor s xs c)) (sym (choice-back p n)) (serves-at t p (omega arith) n))
+        (λ n. ⊎-elim
+        (λ w. subst (λ (c : ℕ). T (legalFor s xs c)) (sym (w .0)) tt)
+        (λ w. subst (λ (c : ℕ). T (legalFor s xs c)) (sym (w .1)) (serves-at t (w .0 + 1) (omega (arith, w .2 .within)) (w .2 .allowed)))
+        (choice-other p n))
+        (decide (names e p))
+
+    -- and the entry, a byte, allows it
+    pub choice-named : e < 256 → T (names e (choiceFor s xs e p)) × (choiceFor s xs e p < 8)
+    unfolding serves legalFor
+    choice-named b = ⊎-elim
+        (λ n. at p (choice-back p n) n (omega arith))
+        (λ n. ⊎-elim (λ w. at 0 (w .0) (idle (w .1)) (omega arith)) (λ w. at (w .0 + 1) (w .1) (w .2 .allowed) (omega (arith, w .2 .within))) (choice-other p n))
+        (decide (names e p))
+      where
+        at : (c : ℕ) → choiceFor s xs e p ≡ c → T (names e c) → c < 8 → T (names e (choiceFor s xs e p)) × (choiceFor s xs e p < 8)
+        at c q n h = (subst (λ (c : ℕ). T (names e c)) (sym q) n, omega arith)
+
+        task : NoneAllowed (s .count) → (c : ℕ) → c < 8 → T (names e c) → T (names e 0)
+        task none zero h n = n
+        task none (suc k) h n =
+            absurd (T-not (names e (k + 1)) (none k (ltb→lt k (s .count) (and-left (ltb k (s .count)) _ (serves-at t (suc k) h n)))) (subst (λ (m : ℕ). T (names e m)) (sym (add-one k)) n))
+
+        idle : NoneAllowed (s .count) → T (names e 0)
+        idle none = let w = anyBelow-at 8 (names e) (subst T (names-none e b) (and-left (not (eqb e 0)) _ t)) in task none (w .0) (w .1) (w .2)
