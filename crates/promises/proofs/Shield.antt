@@ -98,7 +98,8 @@ module _ (s : Set) (t w t′ w′ : List ℕ) (r : Built) (B : Builds s t w r t�
   built-names i k h l =
       ap (λ e. names e k) (built-entry i h) ∙ names-marks 8 (shield (arenaOf s) i) k l
 
-  built-bytes : Bytes (statesOf s) t′
+  -- its entries are bytes
+  pub built-bytes : Bytes (statesOf s) t′
   built-bytes i h = subst (λ (e : ℕ). e < 256) (sym (built-entry i h)) (marks-lt 8 (shield (arenaOf s) i))
 
   -- EXACT: bit k of a built entry is set if and only if the choice k is legal in the state and, after each of its outcomes, none a

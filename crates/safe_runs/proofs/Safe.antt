@@ -4,28 +4,27 @@ use mathlib.Core.Bool.{Bool, true, false, not, _&&_, cond}
 use mathlib.Core.List.{List, [], _∷_}
 use Prim.Native.Nat.{ℕ, zero, suc, _+_, _*_, _≤_, _<_}
 use native.Mathlib.Omega.{arith}
-use lib.Dec.{T, eqb, ltb, ltb→lt, nltb→le, T-not}
+use lib.Dec.{T, eqb, ltb, ltb→lt, T-not}
 use lib.ListN.{length}
 use borrow.Author.Tests.{lt-ltb, le-ltb, eq-eqb, ne-eqb}
 use Rattle.arena.specs.Tests.{all, allBelow, imp}
 use Rattle.arena.specs.Arena.{Next, miss, lands, fine}
-use Rattle.arena.proofs.Tests.{nor, and-left, and-right, and-by, not-not, imp-at, allBelow-at, all-at, first-least, first-hit, T-true}
-use Rattle.tasks.specs.declared.refusals.Refusal.{Refusal}
+use Rattle.arena.proofs.Tests.{nor, and-left, and-right, and-by, not-not, imp-at, allBelow-at, all-at, first-hit, T-true}
 use Rattle.tasks.specs.declared.sets.Set.{Set}
 use Rattle.tasks.specs.declared.sets.Tested.{Tested}
 use Rattle.tasks.specs.declared.sets.Tested.the-variants as Tested
 use Rattle.tasks.specs.Refusals.{Said, badEntry, hardMiss, stateDoesNotFit}
-use Rattle.tasks.specs.Sets.{taskAt, statesTo, statesOf, testSet, Passed}
-use Rattle.tasks.proofs.Valid.{valid, passed, passed-valid, refused-number}
+use Rattle.tasks.specs.Sets.{taskAt, statesTo, statesOf}
+use Rattle.tasks.proofs.Valid.{passed-valid}
 use Rattle.game.specs.declared.states.TaskState.{TaskState}
 use Rattle.game.specs.States.{localOf, noState, stateAt, indexTo, indexOf}
 use Rattle.game.specs.Ticks.{runnable}
 use Rattle.game.specs.Game.{outcomesTo, legalAt, arenaOf}
 use Rattle.game.proofs.StateLaws.{states-pos, state-index}
-use Rattle.shield.specs.declared.tester.Verdict.{Verdict}
 use Rattle.shield.specs.declared.tester.Verdict.the-variants as Verdict
 use Rattle.shield.specs.Entries.{names, entryAt, Bytes, live}
-use Rattle.shield.specs.Test.{faulty, firstFault, testTested, saidVerdict}
+use Rattle.shield.specs.Test.{faulty}
+use Rattle.shield.proofs.Tested.{Tried, passes-tried, said-passes}
 use Rattle.promises.proofs.Shield.{TestPasses}
 use Rattle.guard.specs.declared.runs.Awaited.the-variants as Awaited
 use Rattle.guard.specs.declared.runs.Run.{Run}
@@ -39,31 +38,6 @@ use Rattle.guard.proofs.RunLaws.{seven-at, Fits, fits-by, index-fits, open-tick
 use Rattle.safe_runs.proofs.Guarded.{serves-by, choice-named, choice-legal}
 use Rattle.safe_runs.proofs.Named.{nextTo, named-in, next-go, next-miss}
 use Rattle.safe_runs.proofs.Keeps.{count-le, start-fits, start-run, Ready, ask-case, given-fits, none-such, possible-none, named-case, report-case, state-then, after-fits}
-
--- what the test has found of a table that passes
-pub record Tried (s : Set) (table : List ℕ) : Type 0 where
-  pub set : Passed s
-  pub long : statesOf s ≤ length table
-  pub right : (i : ℕ) → i < statesOf s → T (not (faulty s table i))
-
-went-on : (b : Bool) (f : Refusal) (v : Verdict) → 1 ≤ f .number → saidVerdict (cond b (Verdict.Refused f) v) .number ≡ 0 → T (not b) × (saidVerdict v .number ≡ 0)
-went-on true f v h q = absurd (omega arith)
-went-on false f v h q = (tt, q)
-
-pub passes-tried : (s : Set) (table : List ℕ) → TestPasses s table → Tried s table
-passes-tried s table = by (testSet s) refl
-  where
-    by : (t : Tested) → testSet s ≡ t → saidVerdict (testTested s table t) .number ≡ 0 → Tried s table
-    by (Tested.Refused f) e q = absurd (omega (arith, refused-number s f e .0))
-    by (Tested.States m) e q =
-        let a = went-on (ltb (length table) m) _ _ (omega arith) q in
-        let b = went-on (ltb (firstFault s table) m) _ Verdict.Passes (omega arith) (a .1) in
-        let n = valid s m e .1 in
-        record {
-          set = passed s m e;
-          long = omega (arith, nltb→le (length table) m (a .0));
-          right = λ i h. first-least (faulty s table) (statesOf s) 0 i (omega arith) (omega (arith, nltb→le (firstFault s table) m (b .0)));
-        }
 
 module _ (s : Set) (table : List ℕ) (w : Tried s table) where
   abbrev named-right : ℕ → ℕ → Bool
@@ -215,7 +189,7 @@ module _ (s : Set) (table : List ℕ) (w : Tried s table) (bytes : Bytes (states
 pub safe-runs : (s : Set) (table : List ℕ) → Bytes (statesOf s) table → TestPasses s table
     → (reading : ℕ) (cs : List Call) (c : Call) → Clean (saidBy s table (reached s table reading cs) c)
 safe-runs s table b p reading cs c =
-    let w = passes-tried s table p in
+    let w = passes-tried s table (said-passes s table p) in
     good-call s table w b (reached s table reading cs) (good-reached s table w b reading cs) c .1
 
 -- and up to the tick limit every ask with nothing awaited and a proposal within the tasks is answered
@@ -225,7 +199,7 @@ pub safe-answers : (s : Set) (table : List ℕ) → Bytes (statesOf s) table →
     → (c : ℕ) × (askOf s table (reached s table reading cs) p .answer ≡ Choice c)
 unfolding askFits askEntry askGiven
 safe-answers s table b t reading cs p l e m =
-    let w = passes-tried s table t in
+    let w = passes-tried s table (said-passes s table t) in
     let r = reached s table reading cs in
     let g = good-reached s table w b reading cs in
     let x = entryAt table (indexOf s (r .states)) in (

@@ -1,21 +1,12 @@
-// The builder and the tester with the same recursion, in plain C++: the measure for bench/run.
-// It takes the same standard input as crates/bench_shield and has to print the same line.
-#include <array>
-#include <cstddef>
-#include <cstdint>
-#include <cstdio>
-#include <vector>
+// The builder and the tester with the same recursion, in plain C++.
+#pragma once
+#include "tasks.hpp"
 
-struct Task { uint8_t kind, deadline; uint16_t runs, gaps; };
-struct Set { uint8_t count; std::array<Task, 7> tasks; };
 struct Moves { bool misses, comes, ends; uint32_t ended; bool stays; uint32_t stayed; };
 using Locals = std::array<uint32_t, 7>;
 
-static uint32_t longest(uint16_t list) { return list ? 32 - __builtin_clz(list) : 0; }
-static bool has(uint16_t list, uint32_t v) { return v >= 1 && v <= 16 && (list >> (v - 1)) % 2 == 1; }
-static uint32_t locals(const Task &t) { return longest(t.gaps) * (longest(t.runs) + 1); }
 
-static Moves moves_of(const Task &t, bool run, uint32_t local) {
+inline Moves moves_of(const Task &t, bool run, uint32_t local) {
     const uint32_t cmax = longest(t.runs), age = local / (cmax + 1) + 1, g = local % (cmax + 1);
     const uint32_t older = local + cmax + 1;
     const bool late = t.kind == 1 && t.deadline <= age;
@@ -27,7 +18,7 @@ static Moves moves_of(const Task &t, bool run, uint32_t local) {
     return {late && g < cmax, comes, false, 0, waits, older};
 }
 
-static bool walk_on(const Set &s, const Locals &d, const uint8_t *table, size_t choice, size_t k, size_t at) {
+inline bool walk_on(const Set &s, const Locals &d, const uint8_t *table, size_t choice, size_t k, size_t at) {
     if (k == 0) return table[at] != 0;
     const Task &t = s.tasks[k - 1];
     const Moves m = moves_of(t, choice == k, d[k - 1]);
@@ -39,7 +30,7 @@ static bool walk_on(const Set &s, const Locals &d, const uint8_t *table, size_t 
     return true;
 }
 
-static bool is_legal(const Set &s, const Locals &d, size_t choice) {
+inline bool is_legal(const Set &s, const Locals &d, size_t choice) {
     if (choice == 0) return true;
     if (choice > s.count) return false;
     const Task &t = s.tasks[choice - 1];
@@ -47,7 +38,7 @@ static bool is_legal(const Set &s, const Locals &d, size_t choice) {
     return local % (cmax + 1) < cmax && local / (cmax + 1) < t.deadline;
 }
 
-static uint8_t next_entry(const Set &s, const uint8_t *table, size_t i) {
+inline uint8_t next_entry(const Set &s, const uint8_t *table, size_t i) {
     const uint8_t old = table[i];
     if (old == 0) return 0;
     Locals d{};
@@ -63,14 +54,8 @@ static uint8_t next_entry(const Set &s, const uint8_t *table, size_t i) {
     return entry;
 }
 
-static size_t states(const Set &s) {
-    size_t n = 1;
-    for (size_t k = 0; k < s.count; k++) n *= locals(s.tasks[k]);
-    return n;
-}
-
 // The answers as the numbers that are summed.
-static uint32_t build(const Set &s, std::vector<uint8_t> &table, std::vector<uint8_t> &work) {
+inline uint32_t build(const Set &s, std::vector<uint8_t> &table, std::vector<uint8_t> &work) {
     const size_t n = states(s);
     for (size_t i = 0; i < n; i++) table[i] = 255;
     uint32_t left = n, rounds = 0;
@@ -91,29 +76,10 @@ static uint32_t build(const Set &s, std::vector<uint8_t> &table, std::vector<uin
     return left + rounds + table[0];
 }
 
-static uint32_t test(const Set &s, const std::vector<uint8_t> &table) {
+inline uint32_t test(const Set &s, const std::vector<uint8_t> &table) {
     const size_t n = states(s);
     if (table[0] == 0) return 0;
     for (size_t i = 0; i < n; i++)
         if (table[i] != 0 && next_entry(s, table.data(), i) != table[i]) return i;
     return 1;
-}
-
-int main() {
-    uint8_t b[47] = {};
-    if (fread(b, 1, sizeof b, stdin) != sizeof b) return 1;
-    auto wide = [&](size_t i) { return static_cast<uint16_t>(b[i] + 256 * b[i + 1]); };
-    Set s{b[0], {}};
-    for (size_t k = 0; k < 7; k++) s.tasks[k] = {b[6 * k + 1], b[6 * k + 2], wide(6 * k + 3), wide(6 * k + 5)};
-    std::vector<uint8_t> table(60001), work(60001);
-    uint32_t built = 0, tested = 0;
-    for (uint16_t i = 0; i < wide(43); i++) {
-        table[60000] = i % 256;
-        built += build(s, table, work);
-    }
-    for (uint16_t i = 0; i < wide(45); i++) {
-        table[60000] = i % 256;
-        tested += test(s, table);
-    }
-    printf("built %u tested %u\n", built, tested);
 }
