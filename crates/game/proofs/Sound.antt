@@ -8,7 +8,7 @@ use lib.Arith.{digits-lt}
 use lib.Dec.{T, eqb, ltb, eqb→eq, eqb-refl, ltb→lt, lt→ltb, T-not}
 use Rattle.arena.specs.Tests.{_∈_, all}
 use Rattle.arena.specs.Arena.{Next, miss, go, out, Sound}
-use Rattle.arena.proofs.Tests.{and-left, and-right, and-by, all-at, all-by, anyBelow-by}
+use Rattle.arena.proofs.Tests.{by-cond, and-left, and-right, and-by, all-at, all-by, anyBelow-by}
 use Rattle.tasks.specs.declared.sets.Task.{Task}
 use Rattle.tasks.specs.declared.sets.Set.{Set}
 use Rattle.tasks.specs.Lists.{longestOf, lengthOf, listed}
@@ -24,7 +24,7 @@ use Rattle.game.specs.States.{givenFits, inRange, localOf, taskStateAt}
 use Rattle.game.specs.Ticks.{Flags, flagged, inHand, allowed, canFinish, canArrive, can, runnable, jobAfter, late, arrived, tickOf}
 use Rattle.game.specs.Game.{gather, flags, movesOf, beside, outcomesTo, legalAt, arenaOf}
 use Rattle.game.proofs.StateLaws.{local-lt, states-pos, range-at}
-use Rattle.game.proofs.ListTests.{cond-case, Some, those-by, all-gather, all-map, some-map, some-gather}
+use Rattle.game.proofs.ListTests.{Some, those-by, all-gather, all-map, some-map, some-gather}
 
 differ : (m n : ℕ) → T (not (eqb m n)) → m ≡ n → ⊥
 differ m n t e = T-not (eqb m n) t (subst (λ (k : ℕ). T (eqb m k)) e (eqb-refl m))
@@ -100,8 +100,8 @@ arrived-range τ v false age job a g c =
 pub tick-range : (τ : Task) → ValidTask τ → (run : Bool) (x : TaskState) (f : Flags) → T (ranged τ (tickOf τ run x f))
 unfolding tickOf
 tick-range τ v run x f =
-    cond-case (λ t. T (ranged τ t)) (can τ run x f) _ Ticked.Impossible
-    (λ c. cond-case (λ t. T (ranged τ t)) (late τ (x .age + 1) (jobAfter run (f .finishes) (x .job))) Ticked.Missed _ (λ _. tt) (λ _. next c))
+    by-cond (λ t. T (ranged τ t)) (can τ run x f) _ Ticked.Impossible
+    (λ c. by-cond (λ t. T (ranged τ t)) (late τ (x .age + 1) (jobAfter run (f .finishes) (x .job))) Ticked.Missed _ (λ _. tt) (λ _. next c))
     (λ _. tt)
   where
     next : T (can τ run x f) → T (inRange τ (arrived (f .arrives) (x .age) (jobAfter run (f .finishes) (x .job))))

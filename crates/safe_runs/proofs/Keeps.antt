@@ -7,7 +7,7 @@ use native.Mathlib.Omega.{arith}
 use lib.Dec.{T, eqb, leb, ltb, leb→le, ltb→lt, lt→ltb, nltb→le, T-not}
 use lib.ListN.{length}
 use borrow.Author.Tests.{lt-ltb, le-ltb, le-leb, eq-eqb}
-use Rattle.arena.proofs.Tests.{nor, and-left, and-right, and-by, T-true, T-false, first-least}
+use Rattle.arena.proofs.Tests.{by-cond, nor, and-left, and-right, and-by, T-true, T-false, first-least}
 use Rattle.tasks.specs.declared.sets.Task.{Task}
 use Rattle.tasks.specs.declared.sets.Set.{Set}
 use Rattle.tasks.specs.Refusals.{bufferTooShort, stateDoesNotFit, outOfTurn, ticksUsedUp, proposalAboveCount, badEntry, wrongReading, impossibleOutcome, hardMiss}
@@ -16,7 +16,6 @@ use Rattle.tasks.proofs.ListLaws.{longest-pos}
 use Rattle.tasks.proofs.Valid.{ValidTask, passed-valid}
 use Rattle.game.specs.declared.states.TaskState.{TaskState}
 use Rattle.game.specs.States.{inRange, noState, stateAt, indexOf}
-use Rattle.game.proofs.ListTests.{cond-case}
 use Rattle.shield.specs.Entries.{entryAt}
 use Rattle.guard.specs.declared.runs.Counts.{Counts}
 use Rattle.guard.specs.declared.runs.Awaited.{Awaited}
@@ -95,12 +94,12 @@ module _ (s : Set) (q : Passed s) (table : List ℕ) (r : Run) (p : ℕ) (P : As
   unfolding askFits askEntry
   ask-case short unfit turn used above bad given =
       subst (λ t. P (askTested s table r p t)) (sym q)
-      (cond-case P (ltb (length table) (statesOf s)) _ _ (λ _. short (statesOf s))
-      (λ _. cond-case P (not (fits s r)) _ _ unfit
-      (λ _. cond-case P (awaits (r .awaited)) _ _ turn
-      (λ a. cond-case P (eqb (r .ticks) tickLimit) _ _ used
-      (λ b. cond-case P (ltb (s .count) p) _ _ (λ c. above (ltb→lt (s .count) p c))
-      (λ c. cond-case P (serves s (r .states) (entryAt table (indexOf s (r .states)))) _ _
+      (by-cond P (ltb (length table) (statesOf s)) _ _ (λ _. short (statesOf s))
+      (λ _. by-cond P (not (fits s r)) _ _ unfit
+      (λ _. by-cond P (awaits (r .awaited)) _ _ turn
+      (λ a. by-cond P (eqb (r .ticks) tickLimit) _ _ used
+      (λ b. by-cond P (ltb (s .count) p) _ _ (λ c. above (ltb→lt (s .count) p c))
+      (λ c. by-cond P (serves s (r .states) (entryAt table (indexOf s (r .states)))) _ _
       (λ d. given (record { free = a; more = b; within = nltb→le (s .count) p c; serves = d }))
       bad))))))
 
@@ -151,8 +150,8 @@ module _ (s : Set) (r : Run) (o : Outcome) (P : Reported → Type 0) where
       → P (reportNamed s r o)
   unfolding reportNamed
   named-case a b c =
-      cond-case P (impossible s (r .states) o) _ _ a
-      (λ t. cond-case P (ltb (firstSuch s (r .states) o true) (s .count)) _ _ (λ l. b t (ltb→lt _ _ l)) (λ l. c t (nltb→le _ _ l)))
+      by-cond P (impossible s (r .states) o) _ _ a
+      (λ t. by-cond P (ltb (firstSuch s (r .states) o true) (s .count)) _ _ (λ l. b t (ltb→lt _ _ l)) (λ l. c t (nltb→le _ _ l)))
 
 module _ (s : Set) (q : Passed s) (r : Run) (w : Fits s r) (reading : ℕ) (finished : Bool) (arrivals : ℕ) (P : Reported → Type 0) where
   pub report-case : (P (reportRefused r outOfTurn 0)) → P (reportRefused r wrongReading 0)
@@ -166,7 +165,7 @@ module _ (s : Set) (q : Passed s) (r : Run) (w : Fits s r) (reading : ℕ) (fini
       by : (a : Awaited) → r .awaited ≡ a → P (reportAwaited s r reading finished arrivals a)
       by Awaited.Nothing e = turn
       by (Awaited.Choice c) e =
-          cond-case P (eqb reading (nextReading (r .reading))) _ _ (λ _. named c e) (λ _. wrong)
+          by-cond P (eqb reading (nextReading (r .reading))) _ _ (λ _. named c e) (λ _. wrong)
 
 -- the run after an outcome
 module _ (s : Set) (q : Passed s) (r : Run) (w : Fits s r) (o : Outcome) where

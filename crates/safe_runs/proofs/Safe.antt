@@ -21,7 +21,6 @@ use Rattle.game.specs.States.{localOf, noState, stateAt, indexTo, indexOf}
 use Rattle.game.specs.Ticks.{runnable}
 use Rattle.game.specs.Game.{outcomesTo, legalAt, arenaOf}
 use Rattle.game.proofs.StateLaws.{states-pos, state-index}
-use Rattle.shield.specs.declared.tester.Verdict.the-variants as Verdict
 use Rattle.shield.specs.Entries.{names, entryAt, Bytes, live}
 use Rattle.shield.specs.Test.{faulty}
 use Rattle.shield.proofs.Tested.{Tried, passes-tried, said-passes}
