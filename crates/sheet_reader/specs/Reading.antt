@@ -11,16 +11,12 @@ use Rattle.tasks.specs.declared.sets.Tested.{Tested}
 use Rattle.tasks.specs.declared.sets.Tested.the-variants.{States, Refused as FailedWith}
 use Rattle.tasks.specs.Refusals.{Said, answered, sheetTooLong, sheetForm}
 use Rattle.tasks.specs.Sets.{testSet}
-use Rattle.sheet_form.specs.Form.{Form, fits, stops}
+use Rattle.sheet_form.specs.Form.{longest, Form, fits, stops}
 use Rattle.sheet_form.specs.Sets.{setOf, noSet}
 use Rattle.sheet_form.proofs.Places.{form}
 use Rattle.sheet_reader.specs.declared.ReadAnswer.{ReadAnswer}
 use Rattle.sheet_reader.specs.declared.SheetRead.{SheetRead}
 use Rattle.sheet_reader.specs.declared.ReadAnswer.the-variants.{Taken, Refused}
-
--- a sheet has at most 1,024 bytes
-abbrev pub longest : ℕ
-longest = 1024
 
 -- a refusal returns zeros beside it
 abbrev pub refusedWith : Refusal → SheetRead
