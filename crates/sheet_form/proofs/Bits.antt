@@ -1,7 +1,7 @@
 -- A list that rises and its bits say the same. Assumes nothing.
 use mathlib.Core.Path.{_≡_, refl, sym, ap, ap₂, _∙_, subst}
 use mathlib.Core.Logic.{⊎-elim}
-use mathlib.Core.Bool.{_&&_}
+use mathlib.Core.Bool.{false, _&&_}
 use mathlib.Core.List.{List, [], _∷_, _++_}
 use Prim.Native.Nat.{ℕ, zero, suc, _+_, _-_, _*_, _/_, _%_, _^_, _≤_, _<_}
 use native.Mathlib.Nat.{pow-suc, mul-assoc, mul-comm, add-mul, mul-one, one-mul, zero-mul, mod-lt, zero-lt-suc}
@@ -93,6 +93,11 @@ list-says l h t =
     most : (xs : List ℕ) → Each Small xs → Each (λ x. x ≤ 16) xs
     most [] e = tt
     most (x ∷ xs) e = (e .0 .high, most xs (e .1))
+
+-- one that does not rise is kept as an empty one
+pub kept-none : (l : Values) → rising l ≡ false → lengthOf (listOf l) ≡ 0
+unfolding listOf lengthOf values
+kept-none l e = rw e refl
 
 -- the bits of the values of bits
 here-bits : (b j : ℕ) (l : List ℕ) → b < 2 → bits (here b (suc j) l) ≡ b * 2 ^ j + bits l

@@ -12,22 +12,17 @@ use Rattle.tasks.specs.declared.refusals.Refusal.{Refusal}
 use Rattle.tasks.specs.declared.sets.Set.{Set}
 use Rattle.tasks.specs.declared.sets.Tested.{Tested}
 use Rattle.tasks.specs.declared.sets.Tested.the-variants.{States, Refused}
-use Rattle.tasks.specs.Lists.{values, headOr, lastOr, shortestOf, longestOf, lengthOf}
+use Rattle.tasks.specs.Lists.{headOr, lastOr, shortestOf, longestOf, lengthOf}
 use Rattle.tasks.specs.Refusals.{badRecord, tooManyStates}
 use Rattle.tasks.specs.Sets.{characters, zeros, goodName, noTask, blank, unfit, faultOf, taskAt, faultAt, statesOf, refuseOr, lowestFault, testStates, testSet}
 use Rattle.sheet_form.specs.Form.{Values, Line, Sheet, Each, ValuesOk, LineOk, NameOk, Formed}
 use Rattle.sheet_form.specs.Sets.{numbers, rising, listOf, kindOf, taskOf, padded, setOf, lineFault, lowestLine}
 use Rattle.sheet_form.proofs.Tests.{by-cond}
-use Rattle.sheet_form.proofs.Bits.{list-says}
+use Rattle.sheet_form.proofs.Bits.{list-says, kept-none}
 use Rattle.sheet_form.proofs.Lengths.{last-snoc}
 use Rattle.sheet_form.proofs.Trips.{none-of-zeros, characters-back}
 
 -- A LIST AS A RECORD KEEPS IT
-
--- one that does not rise is kept as an empty one
-kept-none : (l : Values) → rising l ≡ false → lengthOf (listOf l) ≡ 0
-unfolding listOf lengthOf values
-kept-none l e = rw e refl
 
 -- one that rises has its first number as the shortest value, and its last as the longest
 module _ (l : Values) (h : ValuesOk l) (r : T (rising l)) where

@@ -1,5 +1,6 @@
 -- A set and its sheet say the same, both ways. Assumes nothing.
 use mathlib.Core.Path.{_≡_, refl, sym, ap, ap₂, _∙_, subst}
+use mathlib.Core.Logic.{⊎-elim}
 use mathlib.Core.Bool.{Bool, true, false, cond}
 use mathlib.Core.List.{List, [], _∷_, _++_, map}
 use Prim.Native.Nat.{ℕ, zero, suc, _-_, _≤_, _<_}
@@ -9,13 +10,13 @@ use lib.ListN.{length, take, replicate, length-map}
 use lib.Seq.{take-at}
 use Rattle.tasks.specs.declared.sets.Task.{Task}
 use Rattle.tasks.specs.declared.sets.Set.{Set}
-use Rattle.tasks.specs.Lists.{values, lengthOf}
+use Rattle.tasks.specs.Lists.{lengthOf}
 use Rattle.tasks.specs.Sets.{nameByte, characters, noTask}
 use Rattle.sheet_form.specs.Form.{Values, Line, Sheet, Each, Small, LineOk, Formed, sheetText}
-use Rattle.sheet_form.specs.Sets.{numbers, rising, bits, listOf, kindOf, taskOf, padded, setOf, lineOf, sheetOf, textOf, Wide, Sized}
-use Rattle.arena.proofs.Tests.{T-true}
+use Rattle.sheet_form.specs.Sets.{rising, listOf, kindOf, taskOf, padded, setOf, lineOf, sheetOf, textOf, Wide, Sized}
+use Rattle.arena.proofs.Tests.{decide, T-true, T-false}
 use Rattle.sheet_form.proofs.Tests.{Each-take}
-use Rattle.sheet_form.proofs.Bits.{list-back, bits-said}
+use Rattle.sheet_form.proofs.Bits.{kept-none, list-back, bits-said}
 use Rattle.tasks.proofs.Valid.{ValidTask, Valid}
 use Rattle.sheet_form.proofs.Valid.{name-ok, name-rest, task-count, tasks-ok, tasks-rest}
 
@@ -58,14 +59,9 @@ sheet-back s h r =
       lines = (ap (map lineOf) (take-at (map taskOf (s .lines)) (replicate (7 - length (map taskOf (s .lines))) noTask) (length (s .lines)) (length-map (s .lines) taskOf)) ∙ lines-back (s .lines) (h .lines) r) i;
     }
 
--- a list that is kept rises: one that does not is kept as an empty one
+-- a list that is kept rises
 kept-rises : (l : Values) → 0 < lengthOf (listOf l) → T (rising l)
-unfolding listOf lengthOf values
-kept-rises l = go (rising l)
-  where
-    go : (b : Bool) → 0 < lengthOf (cond b (bits (numbers l)) 0) → T b
-    go true h = tt
-    go false h = let z : ⊥ = omega arith in absurd z
+kept-rises l h = ⊎-elim (λ t. t) (λ t. absurd (omega (arith, kept-none l (T-false (rising l) t)))) (decide (rising l))
 
 lines-rise : (ls : List Line) → Each ValidTask (map taskOf ls) → Each LineRises ls
 lines-rise [] h = tt

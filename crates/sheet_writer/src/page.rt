@@ -118,7 +118,7 @@ fn put_name(page: &mut [u8; LONGEST], at: usize, name: [u8; 16]) -> usize
 }
 
 // The whole sheet of a set, from the page's first byte on.
-pub fn put_sheet(page: &mut [u8; LONGEST], set: Set) -> usize
+pub(crate) fn put_sheet(page: &mut [u8; LONGEST], set: Set) -> usize
     requires { ⌜ Passed set ⌝ }
     ensures { λ r. ⌜ Puts (now (page .entry)) (now (page .exit)) 0 r (textOf set) ⌝ }
 {
