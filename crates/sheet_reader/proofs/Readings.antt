@@ -11,7 +11,7 @@ use borrow.Author.Tests.{lt-ltb, le-ltb, ltb-false}
 use Rattle.tasks.specs.declared.refusals.Refusal.{Refusal}
 use Rattle.tasks.specs.declared.sets.Tested.{Tested}
 use Rattle.tasks.specs.declared.sets.Tested.the-variants.{States, Refused as FailedWith}
-use Rattle.tasks.specs.Refusals.{sheetTooLong, sheetForm, badRecord}
+use Rattle.tasks.specs.Refusals.{refusing, sheetTooLong, sheetForm, badRecord}
 use Rattle.tasks.specs.Sets.{testStates, testSet}
 use Rattle.sheet_form.specs.Form.{Line, Sheet, Each, Formed, longest, Member, FaultAt, Form, fits, stops}
 use Rattle.sheet_form.specs.Sets.{rising, setOf, lineFault, lowestLine}
@@ -103,6 +103,10 @@ module _ (f : Refusal) where
   unfolding readText
   refused-zeros t =
       by-cond Bare (ltb longest (length t)) (λ b. bare (record { number = sheetTooLong; place = 0 }) (omega arith)) (λ b. bare-formed t (form t))
+
+  -- in the paper's terms: zeros for the 45 values of a set
+  pub refused-said : (t : List ℕ) → readText t .answer ≡ Refused f → saidRead (readText t) ≡ refusing 45 f
+  refused-said t e = ap saidRead (refused-zeros t e .0)
 
 -- so an answer without a number is a set that was taken
 pub read-taken : (t : List ℕ) (q : SheetRead) → q ≡ readText t → saidRead q .number ≡ 0 → q .answer ≡ Taken
