@@ -7,7 +7,6 @@ use native.Mathlib.Omega.{arith}
 use lib.Dec.{leb, ltb}
 use lib.ListN.{length, take, drop}
 use lib.Seq.{take-at}
-use borrow.Author.Tests.{le-ltb}
 use Rattle.tasks.specs.declared.sets.Set.{Set}
 use Rattle.tasks.specs.declared.sets.Tested.{Tested}
 use Rattle.tasks.specs.declared.sets.Tested.the-variants.{States, Refused as FailedWith}
@@ -22,7 +21,8 @@ use Rattle.sheet_form.proofs.Lengths.{sheet-short}
 use Rattle.sheet_reader.specs.declared.SheetRead.{SheetRead}
 use Rattle.sheet_reader.specs.declared.ReadAnswer.the-variants.{Taken, Refused as ReadRefused}
 use Rattle.sheet_reader.specs.Reading.{longRead, testedRead, formRead, readText, setValues, saidRead}
-use Rattle.sheet_reader.proofs.Readings.{read-by, read-taken}
+use Rattle.sheet_reader.proofs.Passes.{read-short}
+use Rattle.sheet_reader.proofs.Readings.{read-taken}
 use Rattle.sheet_writer.specs.declared.Wrote.{Wrote}
 use Rattle.sheet_writer.specs.declared.Wrote.the-variants.{Length, Refused}
 use Rattle.sheet_writer.specs.Writing.{Written, leaving, placed, testedWrite, writeOf, saidWrote}
@@ -39,9 +39,7 @@ pub sheet-reads : (s : Set) (k : ℕ) → Sized s → testSet s ≡ States k →
 sheet-reads s k z e =
     let v = valid s k e .0 in
     let m : Member (textOf s) = record { sheet = sheetOf s; formed = sheet-formed s (z .name) v; text = refl } in
-    read-by (textOf s) (fits m)
-    ∙ ap (λ b. cond b longRead (formRead (textOf s) (fits m))) (le-ltb longest (length (textOf s)) (sheet-short s (z .name) v))
-    ∙ ap (λ x. testedRead x (testSet x)) (set-back s z v) ∙ ap (testedRead s) e
+    read-short (textOf s) (sheet-short s (z .name) v) (fits m) ∙ ap (λ x. testedRead x (testSet x)) (set-back s z v) ∙ ap (testedRead s) e
 
 -- where the writer answers a length, the set passes its test and that many bytes are its sheet
 written : (s : Set) (b d : List ℕ) (n : ℕ) (r : Tested) → leaving (Length n) d ≡ testedWrite s b r → (k : ℕ) × (r ≡ States k) × (take n d ≡ textOf s)

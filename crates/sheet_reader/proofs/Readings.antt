@@ -1,13 +1,12 @@
--- Reading, by what one pass over the text finds. Assumes nothing.
+-- What reading answers, refusal by refusal. Assumes nothing.
 use mathlib.Core.Path.{_≡_, refl, sym, ap, subst, _∙_}
 use mathlib.Core.Bool.{Bool, true, false, _&&_, cond}
 use mathlib.Core.List.{List, _∷_, _++_}
 use Prim.Native.Nat.{ℕ, _+_, _≤_, _<_}
-use native.Mathlib.Nat.{le-refl}
 use native.Mathlib.Omega.{arith}
 use lib.Dec.{ltb}
 use lib.ListN.{length}
-use borrow.Author.Tests.{lt-ltb, le-ltb, ltb-false}
+use borrow.Author.Tests.{ltb-false}
 use Rattle.tasks.specs.declared.refusals.Refusal.{Refusal}
 use Rattle.tasks.specs.declared.sets.Tested.{Tested}
 use Rattle.tasks.specs.declared.sets.Tested.the-variants.{States, Refused as FailedWith}
@@ -17,29 +16,17 @@ use Rattle.sheet_form.specs.Form.{Line, Sheet, Each, Formed, longest, Member, F
 use Rattle.sheet_form.specs.Sets.{rising, setOf, lineFault, lowestLine}
 use Rattle.sheet_form.proofs.Tests.{by-cond}
 use Rattle.sheet_form.proofs.Faults.{lines-tested, lowest-at, not-rising, refused-own}
-use Rattle.sheet_form.proofs.Places.{one-fault, fault-no-member, one-sheet, form}
-use Rattle.sheet_scan.specs.declared.Scanned.{Scanned}
-use Rattle.sheet_scan.specs.Scan.{scanOf, scanText}
+use Rattle.sheet_form.proofs.Places.{form}
 use Rattle.sheet_reader.specs.declared.SheetRead.{SheetRead}
 use Rattle.sheet_reader.specs.declared.ReadAnswer.{ReadAnswer}
 use Rattle.sheet_reader.specs.declared.ReadAnswer.the-variants.{Taken, Refused}
-use Rattle.sheet_reader.specs.Reading.{refusedWith, longRead, faultRead, testedRead, formRead, readOf, readText, formReach, reachText, setValues, saidAnswer, saidRead}
-
--- whatever shows a text to be a sheet's, or to stop at a place, gives the one answer
-one-read : (t : List ℕ) (f g : Form t) → formRead t f ≡ formRead t g
-one-read t (fits m) (fits n) = ap (λ s. testedRead (setOf s) (testSet (setOf s))) (one-sheet t m n)
-one-read t (fits m) (stops p e) = absurd (fault-no-member t p e m)
-one-read t (stops p e) (fits m) = absurd (fault-no-member t p e m)
-one-read t (stops p e) (stops q f) = ap faultRead (one-fault t p q e f)
-
-pub read-by : (t : List ℕ) (f : Form t) → readText t ≡ readOf t f
-unfolding readText
-read-by t f = ap (cond (ltb longest (length t)) longRead) (one-read t (form t) f)
+use Rattle.sheet_reader.proofs.Passes.{read-short, reach-short}
+use Rattle.sheet_reader.specs.Reading.{refusedWith, longRead, faultRead, testedRead, formRead, readText, reachText, setValues, saidAnswer, saidRead}
 
 -- REFUSAL 2: reading answers it, at the place p, exactly if the text is not too long and its form is at fault at p
 
 pub fault-read : (t : List ℕ) (p : ℕ) → length t ≤ longest → FaultAt t p → readText t ≡ faultRead p
-fault-read t p h f = read-by t (stops p f) ∙ ap (λ b. cond b longRead (faultRead p)) (le-ltb longest (length t) h)
+fault-read t p h f = read-short t h (stops p f)
 
 module _ (t : List ℕ) (p : ℕ) where
   -- a sheet's set is refused with 3 to 6, and never with 2
@@ -60,9 +47,7 @@ module _ (t : List ℕ) (p : ℕ) where
 
 pub read-lines : (t : List ℕ) (m : Member t) → length t ≤ longest
     → readText t ≡ testedRead (setOf (m .sheet)) (lowestLine 0 (m .sheet .lines) (testStates (setOf (m .sheet))))
-read-lines t m h =
-    read-by t (fits m) ∙ ap (λ b. cond b longRead (formRead t (fits m))) (le-ltb longest (length t) h)
-    ∙ ap (testedRead (setOf (m .sheet))) (lines-tested (m .sheet) (m .formed))
+read-lines t m h = read-short t h (fits m) ∙ ap (testedRead (setOf (m .sheet))) (lines-tested (m .sheet) (m .formed))
 
 -- the line l of a sheet is the lowest at fault: the lines before it are without fault
 module _ (t : List ℕ) (m : Member t) (h : length t ≤ longest) (xs : List Line) (l : Line) (ys : List Line) (e : m .sheet .lines ≡ xs ++ (l ∷ ys)) (g : Each (λ x. lineFault x ≡ 0) xs) where
@@ -116,50 +101,10 @@ read-taken t q e g = go (q .answer) refl
     go Taken k = k
     go (Refused f) k = let z : ⊥ = omega (arith, refused-zeros f t (sym (ap (λ (r : SheetRead). r .answer) e) ∙ k) .1, ap (λ a. saidAnswer a (setValues (q .set)) .number) k) in absurd z
 
--- BY THE PASS
+-- WHERE A READER THEN STANDS: at the end of a sheet, at the place of a fault of form, and where it was in a text that is too long (`reach-long`)
 
-pub read-long : (t : List ℕ) → longest < length t → readText t ≡ longRead
-unfolding readText
-read-long t h = ap (λ b. cond b longRead (formRead t (form t))) (lt-ltb longest (length t) h)
+pub reach-sheet : (t : List ℕ) → length t ≤ longest → Member t → reachText t ≡ length t
+reach-sheet t h m = reach-short t h (fits m)
 
--- what the pass finds, answered
-abbrev scanRead : Scanned → SheetRead
-scanRead s = cond (s .whole) (testedRead (s .set) (testSet (s .set))) (faultRead (s .reach))
-
-read-scan : (t : List ℕ) → length t ≤ longest → readText t ≡ scanRead (scanText t)
-unfolding readText scanText
-read-scan t h = ap (λ b. cond b longRead (formRead t (form t))) (le-ltb longest (length t) h) ∙ go (form t)
-  where
-    go : (f : Form t) → formRead t f ≡ scanRead (scanOf t f)
-    go (fits m) = refl
-    go (stops p e) = refl
-
-module _ (t : List ℕ) (s : Scanned) (h : length t ≤ longest) (e : s ≡ scanText t) where
-  by-pass : readText t ≡ scanRead s
-  by-pass = read-scan t h ∙ ap scanRead (sym e)
-
-  pub read-faulty : s .whole ≡ false → readText t ≡ faultRead (s .reach)
-  read-faulty w = by-pass ∙ ap (λ b. cond b (testedRead (s .set) (testSet (s .set))) (faultRead (s .reach))) w
-
-  pub read-tested : s .whole ≡ true → (r : Tested) → testSet (s .set) ≡ r → readText t ≡ testedRead (s .set) r
-  read-tested w r q = by-pass ∙ ap (λ b. cond b (testedRead (s .set) (testSet (s .set))) (faultRead (s .reach))) w ∙ ap (testedRead (s .set)) q
-
-pub scan-within : (t : List ℕ) → scanText t .reach ≤ length t
-unfolding scanText
-scan-within t = go (form t)
-  where
-    go : (f : Form t) → scanOf t f .reach ≤ length t
-    go (fits m) = le-refl (length t)
-    go (stops p e) = e .within
-
-pub reach-long : (t : List ℕ) → longest < length t → reachText t ≡ 0
-unfolding reachText
-reach-long t h = ap (λ b. cond b 0 (formReach t (form t))) (lt-ltb longest (length t) h)
-
-pub reach-scan : (t : List ℕ) → length t ≤ longest → reachText t ≡ scanText t .reach
-unfolding reachText scanText
-reach-scan t h = ap (λ b. cond b 0 (formReach t (form t))) (le-ltb longest (length t) h) ∙ go (form t)
-  where
-    go : (f : Form t) → formReach t f ≡ scanOf t f .reach
-    go (fits m) = refl
-    go (stops p e) = refl
+pub reach-fault : (t : List ℕ) (p : ℕ) → length t ≤ longest → FaultAt t p → reachText t ≡ p
+reach-fault t p h f = reach-short t h (stops p f)

@@ -26,7 +26,6 @@ use denote.Plain.{uint-makes, uint-lawful}
 use denote.Builtin.{usize}
 use denote.Ref.{now}
 use denote.Steps.{only, owned, peeks, heard, nothing}
-use denote.Struct.Laws as LL
 use denote.Struct.Rest.{own-put}
 use denote.Triple.Statement.{Contract, Triple}
 use denote.Triple.Call.{calls-at}

@@ -9,7 +9,7 @@ use Rattle.tasks.specs.declared.sets.Tested.{Tested}
 use Rattle.tasks.specs.Sets.{testSet}
 use Rattle.sheet_form.specs.Form.{longest}
 use Rattle.sheet_reader.specs.Reading.{testedRead, readText}
-use Rattle.sheet_reader.proofs.Readings.{read-faulty, read-tested, read-long, scan-within}
+use Rattle.sheet_reader.proofs.Passes.{read-faulty, read-tested, read-long, scan-within}
 use Rattle.sheet_scan.specs.declared.Scanned.{Scanned}
 use borrow.Author.Needs.{needs}
 use Rattle.sheet_reader.proofs.read_at.Statement.{statement}
@@ -26,7 +26,7 @@ module _ (c : tie.Else1) where
 formed : (c : tie.Else2) (r : Tested) → let d = c .before .before in testSet (d .scan .result .set) ≡ r → readText (rest (d .before)) ≡ testedRead (d .scan .result .set) r
 formed c =
     let d = c .before .before in
-    read-tested (rest (d .before)) (d .scan .result) (short (d .before)) (d .scan .ensures) (not-false _ (c .if2 .left))
+    read-tested (rest (d .before)) (short (d .before)) (d .scan .result) (d .scan .ensures) (not-false _ (c .if2 .left))
 
 left-requires : tie.Need-left-requires
 left-requires c κs = search needs
@@ -54,7 +54,7 @@ returns-2 : tie.Need-returns-2
 returns-2 c =
     let e = c .before .before in
     let d = e .before .before in
-    c .refused2 .ensures ∙ sym (read-faulty (rest (d .before)) (d .scan .result) (short (d .before)) (d .scan .ensures) (not-true _ (e .if2 .taken)))
+    c .refused2 .ensures ∙ sym (read-faulty (rest (d .before)) (short (d .before)) (d .scan .result) (d .scan .ensures) (not-true _ (e .if2 .taken)))
 
 test-requires : tie.Need-test-requires
 test-requires c κs = search needs
