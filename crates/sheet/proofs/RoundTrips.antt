@@ -2,30 +2,31 @@
 use mathlib.Core.Path.{_≡_, refl, sym, ap, ap₂, _∙_}
 use mathlib.Core.Bool.{Bool, true, false, cond}
 use mathlib.Core.List.{List, [], _∷_, _++_}
-use Prim.Native.Nat.{ℕ, _≤_}
+use Prim.Native.Nat.{ℕ, _≤_, _<_}
 use native.Mathlib.Omega.{arith}
 use lib.Dec.{leb, ltb}
 use lib.ListN.{length, take, drop}
 use lib.Seq.{take-at}
-use borrow.Author.Tests.{le-ltb, le-leb}
 use Rattle.tasks.specs.declared.sets.Set.{Set}
 use Rattle.tasks.specs.declared.sets.Tested.{Tested}
 use Rattle.tasks.specs.declared.sets.Tested.the-variants.{States, Refused as FailedWith}
-use Rattle.tasks.specs.Refusals.{answered, bufferTooShort}
+use Rattle.tasks.specs.Refusals.{answered, refusing, bufferTooShort}
 use Rattle.tasks.specs.Sets.{testSet}
-use Rattle.sheet_form.specs.Form.{Form, fits, stops, Member}
+use Rattle.sheet_form.specs.Form.{longest, Form, fits, stops, Member}
 use Rattle.sheet_form.specs.Sets.{setOf, sheetOf, textOf, Sized}
 use Rattle.sheet_form.proofs.Places.{form}
-use Rattle.tasks.proofs.Valid as Rules
-use Rattle.sheet_form.proofs.Valid.{valid}
+use Rattle.tasks.proofs.Valid.{valid}
 use Rattle.sheet_form.proofs.Trips.{text-back, sheet-formed, set-back}
 use Rattle.sheet_form.proofs.Lengths.{sheet-short}
 use Rattle.sheet_reader.specs.declared.SheetRead.{SheetRead}
 use Rattle.sheet_reader.specs.declared.ReadAnswer.the-variants.{Taken, Refused as ReadRefused}
-use Rattle.sheet_reader.specs.Reading.{longest, longRead, testedRead, formRead, readText, setValues, saidRead}
-use Rattle.sheet_reader.proofs.Readings.{read-by, read-taken}
+use Rattle.sheet_reader.specs.Reading.{longRead, testedRead, formRead, readText, setValues, saidRead}
+use Rattle.sheet_reader.proofs.Passes.{read-short}
+use Rattle.sheet_reader.proofs.Readings.{read-taken}
+use Rattle.sheet_writer.specs.declared.Wrote.{Wrote}
 use Rattle.sheet_writer.specs.declared.Wrote.the-variants.{Length, Refused}
 use Rattle.sheet_writer.specs.Writing.{Written, leaving, placed, testedWrite, writeOf, saidWrote}
+use Rattle.sheet_writer.proofs.Placed.{placed-short, placed-fits}
 
 -- a set that was taken
 abbrev taken : Set → SheetRead
@@ -36,11 +37,9 @@ taken s = record { answer = Taken; set = s }
 -- the sheet of a set that passes its test reads as that set
 pub sheet-reads : (s : Set) (k : ℕ) → Sized s → testSet s ≡ States k → readText (textOf s) ≡ taken s
 sheet-reads s k z e =
-    let v = valid s (z .name) (z .tasks) (Rules.valid s k e .0) in
-    let m : Member (textOf s) = record { sheet = sheetOf s; formed = sheet-formed s v; text = refl } in
-    read-by (textOf s) (fits m)
-    ∙ ap (λ b. cond b longRead (formRead (textOf s) (fits m))) (le-ltb longest (length (textOf s)) (sheet-short s v))
-    ∙ ap (λ x. testedRead x (testSet x)) (set-back s z v) ∙ ap (testedRead s) e
+    let v = valid s k e .0 in
+    let m : Member (textOf s) = record { sheet = sheetOf s; formed = sheet-formed s (z .name) v; text = refl } in
+    read-short (textOf s) (sheet-short s (z .name) v) (fits m) ∙ ap (λ x. testedRead x (testSet x)) (set-back s z v) ∙ ap (testedRead s) e
 
 -- where the writer answers a length, the set passes its test and that many bytes are its sheet
 written : (s : Set) (b d : List ℕ) (n : ℕ) (r : Tested) → leaving (Length n) d ≡ testedWrite s b r → (k : ℕ) × (r ≡ States k) × (take n d ≡ textOf s)
@@ -72,7 +71,7 @@ tested-back : (t : List ℕ) (m : Member t) (r : Tested) → testSet (setOf (m .
 unfolding writeOf
 tested-back t m (States k) e q f g b =
     ap (λ (x : SheetRead). writeOf (x .set) b) f ∙ ap (testedWrite (setOf (m .sheet)) b) e
-    ∙ ap (λ x. placed x b) (text-back (m .sheet) (m .formed) (Rules.valid (setOf (m .sheet)) k e .0) ∙ m .text)
+    ∙ ap (λ x. placed x b) (text-back (m .sheet) (m .formed) (valid (setOf (m .sheet)) k e .0) ∙ m .text)
 tested-back t m (FailedWith x) e q f g b = let h : ReadRefused x ≡ Taken = sym (ap (λ (x : SheetRead). x .answer) f) ∙ g in cc
 
 form-back : (t : List ℕ) (f : Form t) (c : Bool) (q : SheetRead) → q ≡ cond c longRead (formRead t f) → q .answer ≡ Taken → (b : List ℕ) → writeOf (q .set) b ≡ placed t b
@@ -91,15 +90,18 @@ pub read-written-said : (s : Set) → Sized s → (b d : List ℕ) (n : ℕ) →
     → (q : SheetRead) → q ≡ readText (take n d) → saidRead q ≡ answered (setValues s)
 read-written-said s z b d n e q r = ap saidRead (read-written s z b d n e q r)
 
-pub record Rewritten (t : List ℕ) (w : Written) : Type 0 where
-  pub answer : saidWrote (w .answer) ≡ answered (length t ∷ [])
-  pub bytes : take (length t) (w .bytes) ≡ t
+-- the text t is written into the buffer b: whole, with b's own bytes beyond it; where b is too short not at all, and refused with 7 and the length of t
+pub record Rewritten (t b : List ℕ) (w : Written) : Type 0 where
+  pub whole : length t ≤ length b → (saidWrote (w .answer) ≡ answered (length t ∷ [])) × (w .bytes ≡ t ++ drop (length t) b)
+  pub refused : length b < length t → (saidWrote (w .answer) ≡ refusing 1 (record { number = bufferTooShort; place = length t })) × (w .bytes ≡ b)
 
-pub write-read-said : (t : List ℕ) (q : SheetRead) → q ≡ readText t → saidRead q .number ≡ 0 → (b : List ℕ) → length t ≤ length b → Rewritten t (writeOf (q .set) b)
-write-read-said t q e g b h =
-    let w : writeOf (q .set) b ≡ leaving (Length (length t)) (t ++ drop (length t) b)
-    = write-read t q e (read-taken t q e g) b ∙ ap (λ c. cond c (leaving (Length (length t)) (t ++ drop (length t) b)) (leaving (Refused (record { number = bufferTooShort; place = length t })) b)) (le-leb (length t) (length b) h) in
+pub write-read-said : (t : List ℕ) (q : SheetRead) → q ≡ readText t → saidRead q .number ≡ 0 → (b : List ℕ) → Rewritten t b (writeOf (q .set) b)
+write-read-said t q e g b =
+    let w : writeOf (q .set) b ≡ placed t b = write-read t q e (read-taken t q e g) b in
     record {
-      answer = ap (λ (x : Written). saidWrote (x .answer)) w;
-      bytes = ap (λ (x : Written). take (length t) (x .bytes)) w ∙ take-at t (drop (length t) b) (length t) refl;
+      whole = λ h. parts (w ∙ sym (placed-fits t b (length t) refl (t ++ drop (length t) b) h refl));
+      refused = λ h. parts (w ∙ sym (placed-short t b (length t) refl h));
     }
+  where
+    parts : {a : Wrote} {d : List ℕ} → writeOf (q .set) b ≡ leaving a d → (saidWrote (writeOf (q .set) b .answer) ≡ saidWrote a) × (writeOf (q .set) b .bytes ≡ d)
+    parts k = (ap (λ (x : Written). saidWrote (x .answer)) k, ap (λ (x : Written). x .bytes) k)

@@ -21,14 +21,14 @@ pub fn begin<'a>(text: &'a [u8]) -> Reader<'a>
     Reader { text, at: 0 }
 }
 
-// The sheet that stands at a reader's place.
+// All that stands from a reader's place to the end of its text, read as one sheet; a refusal's place counts from the reader's.
 pub fn next<'a>(r: Reader<'a>) -> SheetRead
     ensures { λ s. ⌜ s ≡ readText (drop (r .entry .at) (now (r .entry .text))) ⌝ }
 {
     sheet_reader::read_at(r.text, r.at)
 }
 
-// The reader after reading there: at the end of the text or, where the form has a fault, at its place.
+// The reader after that: at the end of its text or, where the form has a fault, at its place; not moved by more than 1,024 bytes.
 pub fn past<'a>(r: Reader<'a>) -> Reader<'a>
     ensures { λ q. ⌜ (q .text ≡ r .entry .text) × (q .at ≡ r .entry .at + reachText (drop (r .entry .at) (now (r .entry .text)))) ⌝ }
 {

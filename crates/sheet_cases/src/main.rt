@@ -1,13 +1,46 @@
-// The worked cases of sheets. Standard input has the texts to read, each after a label and `|` and before `~`; what comes back is printed.
+// The worked cases of sheets. Standard input has the texts to read, each after a label and `|` and before `~`. Of each the answer, the
+// reader's place and the set beside the answer are printed and, where the set was taken, what is written of it.
 mod say;
 
 use say::say;
+use say::say_answer;
 use say::say_number;
-use say::say_read;
+use say::say_set;
 use say::say_wrote;
+use sheet_reader::ReadAnswer;
 use tasks::sets::Set;
 ghost use Prim.Native.Nat.{_≤_, _<_};
 ghost use lib.ListN.{length};
+
+// What writing a set answers, and the buffer after it.
+fn write(set: Set, buf: &mut [u8]) {
+    say_wrote(sheet::write(set, buf));
+    say(b"\n");
+    say(buf);
+    say(b"\n");
+}
+
+// A set that was taken, written into a buffer with room for more; nothing of a refused one.
+fn write_back(a: ReadAnswer, set: Set) {
+    match a {
+        ReadAnswer::Taken => {
+            let mut page = [b'.'; 200];
+            write(set, &mut page);
+        }
+        ReadAnswer::Refused(_) => {}
+    }
+}
+
+fn read(text: &[u8]) {
+    let r = sheet::read(text);
+    let a = r.answer;
+    let set = r.set;
+    say_answer(a);
+    say_number(b" at ", sheet_reader::place_after(text, 0) as u64);
+    say_set(set);
+    say(b"\n");
+    write_back(a, set);
+}
 
 // Where a byte stands first from a place on; the end where it does not.
 fn find(text: &[u8], from: usize, mark: u8) -> usize
@@ -22,13 +55,6 @@ fn find(text: &[u8], from: usize, mark: u8) -> usize
         i += 1;
     }
     i
-}
-
-// What reading a text answers, and where a reader then stands.
-fn read(text: &[u8]) {
-    say_read(sheet::read(text));
-    say(b"at");
-    say_number(sheet_reader::place_after(text, 0) as u64);
 }
 
 // The case that begins at a place, and the place of the next.
@@ -58,14 +84,7 @@ fn read_all(cases: &[u8]) {
     }
 }
 
-// What writing a set answers, and the buffer after it.
-fn write(set: Set, buf: &mut [u8]) {
-    say_wrote(sheet::write(set, buf));
-    say(buf);
-    say(b"\n");
-}
-
-// Into buffers of 32, 31 and 30 bytes.
+// Into buffers of 32, 31, 30 bytes and one.
 fn write_lengths(set: Set) {
     let mut longer = [b'.'; 32];
     write(set, &mut longer);
@@ -73,6 +92,8 @@ fn write_lengths(set: Set) {
     write(set, &mut exact);
     let mut shorter = [b'.'; 30];
     write(set, &mut shorter);
+    let mut shortest = [b'.'; 1];
+    write(set, &mut shortest);
 }
 
 // Sets that do not pass their test, whatever the buffer: a count, a record beyond the count, a name.
@@ -94,7 +115,6 @@ fn main() {
     let mut cases = [0u8; 8192];
     let n = io::read_full(0, &mut cases);
     read_all(&cases[..n]);
-    say(b"\n");
     let r = sheet::read(b"set PAIR\nhard 2 1 2\nhard 2 1 2\n");
     let set = r.set;
     write_lengths(set);

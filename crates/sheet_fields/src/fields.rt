@@ -29,7 +29,8 @@ fn more_digit(v: u8, b: u8) -> u8
     0
 }
 
-// One number more on a list: kept while the list rises, and no number above 16 is on one.
+// One number more on a list, kept while the list rises. No number above 16 is read, and bits that rise do not wrap: the second test
+// and the wrapping sum only let the contract hold for all that can be passed.
 fn push(last: u8, bits: u16, v: u8) -> Kept
     ensures { λ r. ⌜ r ≡ pushOf last bits v ⌝ }
 {
@@ -55,7 +56,8 @@ fn ender(mode: u8) -> u8
     b' '
 }
 
-// The number read ends a field; with the gaps a task ends, for which there is room up to the seventh.
+// The number read ends a field; with the gaps a task ends. No line begins after the seventh task, so the test of the count only lets
+// the contract hold for every state.
 fn closed(s: State) -> State
     ensures { λ r. ⌜ r ≡ closedOf s ⌝ }
 {

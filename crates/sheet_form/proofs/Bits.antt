@@ -1,7 +1,7 @@
 -- A list that rises and its bits say the same. Assumes nothing.
 use mathlib.Core.Path.{_≡_, refl, sym, ap, ap₂, _∙_, subst}
 use mathlib.Core.Logic.{⊎-elim}
-use mathlib.Core.Bool.{_&&_}
+use mathlib.Core.Bool.{false, _&&_}
 use mathlib.Core.List.{List, [], _∷_, _++_}
 use Prim.Native.Nat.{ℕ, zero, suc, _+_, _-_, _*_, _/_, _%_, _^_, _≤_, _<_}
 use native.Mathlib.Nat.{pow-suc, mul-assoc, mul-comm, add-mul, mul-one, one-mul, zero-mul, mod-lt, zero-lt-suc}
@@ -11,7 +11,8 @@ use lib.ListN.{length}
 use Rattle.tasks.specs.Lists.{values, valuesOf, here, lengthOf}
 use Rattle.sheet_form.specs.Form.{Values, Each, Small, ValuesOk}
 use Rattle.sheet_form.specs.Sets.{numbers, risingFrom, rising, bits, listOf, lastApart}
-use Rattle.sheet_form.proofs.Tests.{so, and-left, and-right, below, Each-snoc}
+use Rattle.arena.proofs.Tests.{T-true, and-left, and-right, lt-or-le}
+use Rattle.sheet_form.proofs.Tests.{Each-snoc}
 
 -- the bits of numbers above l, the lowest being that of l + 1
 abbrev bitsFrom : ℕ → List ℕ → ℕ
@@ -26,7 +27,7 @@ rising-less : (k l : ℕ) (xs : List ℕ) → k ≤ l → T (risingFrom l xs) �
 rising-less k l [] h t = tt
 rising-less k l (x ∷ xs) h t =
     let g : l < x = ltb→lt l x (and-left (ltb l x) (risingFrom x xs) t) in
-    subst (λ b. T (b && risingFrom x xs)) (sym (so (ltb k x) (lt→ltb k x (omega arith)))) (and-right (ltb l x) (risingFrom x xs) t)
+    subst (λ b. T (b && risingFrom x xs)) (sym (T-true (ltb k x) (lt→ltb k x (omega arith)))) (and-right (ltb l x) (risingFrom x xs) t)
 
 -- one place further down, each bit doubles
 double : (l : ℕ) (xs : List ℕ) → T (risingFrom (suc l) xs) → bitsFrom l xs ≡ 2 * bitsFrom (suc l) xs
@@ -49,7 +50,7 @@ unfolding values
 values-bits d l [] t h = none d (suc l)
 values-bits zero l (x ∷ xs) t h = let z : ⊥ = omega (arith, ltb→lt l x (and-left (ltb l x) (risingFrom x xs) t), h .0) in absurd z
 values-bits (suc d) l (x ∷ xs) t h =
-    ⊎-elim (λ g. above g (values-bits d (suc l) (x ∷ xs) (from g) (up (x ∷ xs) h))) (λ g. lowest (same g) (values-bits d (suc l) xs (subst (λ n. T (risingFrom n xs)) (same g) rest) (up xs (h .1)))) (below (suc l) x)
+    ⊎-elim (λ g. above g (values-bits d (suc l) (x ∷ xs) (from g) (up (x ∷ xs) h))) (λ g. lowest (same g) (values-bits d (suc l) xs (subst (λ n. T (risingFrom n xs)) (same g) rest) (up xs (h .1)))) (lt-or-le (suc l) x)
   where
     up : (ys : List ℕ) → Each (λ x. x ≤ l + suc d) ys → Each (λ x. x ≤ suc l + d) ys
     up [] e = tt
@@ -59,7 +60,7 @@ values-bits (suc d) l (x ∷ xs) t h =
     rest = and-right (ltb l x) (risingFrom x xs) t
 
     from : suc l < x → T (risingFrom (suc l) (x ∷ xs))
-    from g = subst (λ b. T (b && risingFrom x xs)) (sym (so (ltb (suc l) x) (lt→ltb (suc l) x g))) rest
+    from g = subst (λ b. T (b && risingFrom x xs)) (sym (T-true (ltb (suc l) x) (lt→ltb (suc l) x g))) rest
 
     same : x ≤ suc l → x ≡ suc l
     same g = omega (arith, ltb→lt l x (and-left (ltb l x) (risingFrom x xs) t))
@@ -87,11 +88,16 @@ all-small l h = Each-snoc Small (l .firsts) (l .final) (h .firsts) (h .final)
 pub list-says : (l : Values) → ValuesOk l → T (rising l) → valuesOf (listOf l) ≡ numbers l
 unfolding listOf
 list-says l h t =
-    rw (so (rising l) t) (ap valuesOf (all-bits (numbers l)) ∙ values-bits 16 0 (numbers l) t (most (numbers l) (all-small l h)))
+    rw (T-true (rising l) t) (ap valuesOf (all-bits (numbers l)) ∙ values-bits 16 0 (numbers l) t (most (numbers l) (all-small l h)))
   where
     most : (xs : List ℕ) → Each Small xs → Each (λ x. x ≤ 16) xs
     most [] e = tt
     most (x ∷ xs) e = (e .0 .high, most xs (e .1))
+
+-- one that does not rise is kept as an empty one
+pub kept-none : (l : Values) → rising l ≡ false → lengthOf (listOf l) ≡ 0
+unfolding listOf lengthOf values
+kept-none l e = rw e refl
 
 -- the bits of the values of bits
 here-bits : (b j : ℕ) (l : List ℕ) → b < 2 → bits (here b (suc j) l) ≡ b * 2 ^ j + bits l
@@ -129,7 +135,7 @@ list-back l h t = ap lastApart (list-says l h t) ∙ apart-snoc (l .firsts) (l .
 
 here-rises : (b l k : ℕ) (r : List ℕ) → l < k → T (risingFrom k r) → T (risingFrom l r) → T (risingFrom l (here b k r))
 here-rises zero l k r h p q = q
-here-rises (suc b) l k r h p q = subst (λ c. T (c && risingFrom k r)) (sym (so (ltb l k) (lt→ltb l k h))) p
+here-rises (suc b) l k r h p q = subst (λ c. T (c && risingFrom k r)) (sym (T-true (ltb l k) (lt→ltb l k h))) p
 
 values-rise : (d l k m : ℕ) → l < k → T (risingFrom l (values d k m))
 unfolding values
@@ -164,5 +170,5 @@ bits-said m p =
     record {
       ok = parts-small (l .firsts) (l .final) (subst (Each Small) (sym w) (values-small 16 1 m (omega arith) (omega arith)));
       rises = r;
-      kept = λ h. rw (so (rising l) r) (ap bits w ∙ bits-of-values 16 0 m h ∙ mul-one m);
+      kept = λ h. rw (T-true (rising l) r) (ap bits w ∙ bits-of-values 16 0 m h ∙ mul-one m);
     }

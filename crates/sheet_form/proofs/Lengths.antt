@@ -1,4 +1,4 @@
--- The sheet of a valid set is at most 1,024 bytes long. Assumes nothing.
+-- The length of a sheet. Assumes nothing.
 use mathlib.Core.Path.{_≡_, refl, sym, ap, ap₂, _∙_, subst}
 use mathlib.Core.Bool.{Bool, true, false}
 use mathlib.Core.List.{List, [], _∷_, _++_, map, append-nil}
@@ -11,16 +11,14 @@ use lib.Pow.{shr-shr}
 use Rattle.tasks.specs.declared.sets.Task.{Task}
 use Rattle.tasks.specs.declared.sets.Set.{Set}
 use Rattle.tasks.specs.Lists.{values, valuesOf, here, lastOr, longestOf, lengthOf}
-use Rattle.tasks.specs.declared.sets.Tested.the-variants.{States}
-use Rattle.tasks.specs.Sets.{characters, testSet}
+use Rattle.tasks.specs.Sets.{characters}
 use Rattle.tasks.proofs.ListLaws.{longest-le}
-use Rattle.sheet_form.specs.Form.{Values, each, Each, space, lf, decimal, withComma, valuesText, kindText, lineText, setText}
-use Rattle.sheet_form.specs.Sets.{lastApart, lineOf, textOf, Sized}
+use Rattle.sheet_form.specs.Form.{Values, each, Each, space, lf, decimal, withComma, valuesText, kindText, lineText, setText, longest}
+use Rattle.sheet_form.specs.Sets.{lastApart, lineOf, textOf}
 use Rattle.sheet_form.proofs.Tests.{by-cond}
 use Rattle.sheet_form.proofs.Bits.{apart-snoc}
-use Rattle.tasks.proofs.Valid as Rules
-use Rattle.sheet_form.proofs.Valid.{valid}
-use Rattle.sheet_form.specs.Valid.{TaskOk, Valid}
+use Rattle.tasks.proofs.Valid.{ValidTask, Valid}
+use Rattle.sheet_form.proofs.Valid.{name-ok, task-count, tasks-ok}
 
 pub decimal-length : (v : ℕ) → length (decimal v) ≤ 2
 unfolding decimal
@@ -58,7 +56,7 @@ unfolding values
 firsts-length zero k m = omega arith
 firsts-length (suc d) k m = here-length (m % 2) k (values d (suc k) (m / 2)) d (firsts-length d (suc k) (m / 2))
 
-last-snoc : (e : ℕ) (xs : List ℕ) (x : ℕ) → lastOr e (xs ++ (x ∷ [])) ≡ x
+pub last-snoc : (e : ℕ) (xs : List ℕ) (x : ℕ) → lastOr e (xs ++ (x ∷ [])) ≡ x
 last-snoc e [] x = refl
 last-snoc e (y ∷ xs) x = last-snoc y xs x
 
@@ -94,7 +92,7 @@ list-length m p =
     let t = longestOf m in
     omega (arith, ap length (top-text m p), length-append (each withComma (values (t - 1) 1 m)) (decimal t), firsts-length (t - 1) 1 m, decimal-length t, longest-le m)
 
-pub line-length : (τ : Task) → TaskOk τ → length (lineText (lineOf τ)) ≤ 106
+pub line-length : (τ : Task) → ValidTask τ → length (lineText (lineOf τ)) ≤ 106
 unfolding lineText
 line-length τ h =
     let k = kindText (eqb (τ .kind) 1) in let d = decimal (τ .deadline) in let r = valuesText (lastApart (valuesOf (τ .runs))) in let g = valuesText (lastApart (valuesOf (τ .gaps))) in
@@ -112,7 +110,7 @@ line-length τ h =
       list-length (τ .gaps) (h .gaps),
     )
 
-pub lines-length : (ts : List Task) → Each TaskOk ts → length (each lineText (map lineOf ts)) ≤ 106 * length ts
+pub lines-length : (ts : List Task) → Each ValidTask ts → length (each lineText (map lineOf ts)) ≤ 106 * length ts
 lines-length [] h = omega arith
 lines-length (τ ∷ ts) h = omega (arith, length-append (lineText (lineOf τ)) (each lineText (map lineOf ts)), line-length τ (h .0), lines-length ts (h .1))
 
@@ -120,11 +118,8 @@ pub head-length : (name : List ℕ) → length (setText ++ name ++ lf) ≡ 5 + l
 head-length name = omega (arith, length-append (setText ++ name) lf, length-append setText name)
 
 -- every valid set's sheet is at most 1,024 bytes long
-pub sheet-short : (s : Set) → Valid s → length (textOf s) ≤ 1024
-sheet-short s v =
+pub sheet-short : (s : Set) → length (s .name) ≡ 16 → Valid s → length (textOf s) ≤ longest
+sheet-short s l v =
     let n = take (characters (s .name)) (s .name) in
     let ts = take (s .count) (s .tasks) in
-    omega (arith, length-append (setText ++ n ++ lf) (each lineText (map lineOf ts)), head-length n, v .name .high, lines-length ts (v .tasks), v .count, v .high)
-
-pub tested-short : (s : Set) (k : ℕ) → Sized s → testSet s ≡ States k → length (textOf s) ≤ 1024
-tested-short s k z e = sheet-short s (valid s (z .name) (z .tasks) (Rules.valid s k e .0))
+    omega (arith, length-append (setText ++ n ++ lf) (each lineText (map lineOf ts)), head-length n, name-ok (s .name) (v .name) l .high, lines-length ts (tasks-ok s v), task-count s v, v .count .1)

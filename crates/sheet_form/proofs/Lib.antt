@@ -7,3 +7,4 @@ pub mod Bits
 pub mod Valid
 pub mod Trips
 pub mod Lengths
+pub mod Faults

@@ -10,7 +10,7 @@ use lib.ListN.{length, take, drop, take-append-drop}
 use lib.Seq.{take-all, take-take}
 use Rattle.sheet_form.specs.Form.{Sheet, Member, Begins, FaultAt, Form, fits, stops}
 use Rattle.sheet_form.specs.Machine.{State, word, name, line, field, fault, step, run, start}
-use Rattle.sheet_form.proofs.Tests.{below}
+use Rattle.arena.proofs.Tests.{lt-or-le}
 use Rattle.sheet_form.proofs.Shown.{shown, Ok, Reads, step-reads}
 use Rattle.sheet_form.proofs.Live.{back, live}
 use Rattle.sheet_form.proofs.Runs.{run-append, whole}
@@ -103,13 +103,13 @@ fault-order t p q f g h = f .longest (omega (arith, g .within)) (shorter t (suc 
 
 pub one-fault : (t : List ℕ) (p q : ℕ) → FaultAt t p → FaultAt t q → p ≡ q
 one-fault t p q f g =
-    ⊎-elim (λ h. absurd (fault-order t p q f g h)) (λ h. ⊎-elim (λ k. absurd (fault-order t q p g f k)) (λ k. omega arith) (below q p)) (below p q)
+    ⊎-elim (λ h. absurd (fault-order t p q f g h)) (λ h. ⊎-elim (λ k. absurd (fault-order t q p g f k)) (λ k. omega arith) (lt-or-le q p)) (lt-or-le p q)
 
 pub fault-no-member : (t : List ℕ) (p : ℕ) → FaultAt t p → Member t → ⊥
 fault-no-member t p f m =
     ⊎-elim
     (λ h. f .longest h (record { rest = drop (suc p) t; member = subst Member (sym (take-append-drop (suc p) t)) m }))
-    (λ h. f .whole (omega (arith, f .within)) m) (below p (length t))
+    (λ h. f .whole (omega (arith, f .within)) m) (lt-or-le p (length t))
 
 -- a text that the machine accepts is a sheet's
 pub record Accepted (t : List ℕ) (s : State) : Type 0 where
@@ -125,7 +125,7 @@ accepted-at t (field f xs v) o e h = absurd h
 accepted-at t fault o e h = absurd h
 
 pub accepted : (t : List ℕ) → T (accepts (run start t)) → Accepted t (run start t)
-accepted t h = ⊎-elim fell whole-text (below (place start t) (length t))
+accepted t h = ⊎-elim fell whole-text (lt-or-le (place start t) (length t))
   where
     k : Took start t (place start t)
     k = takes start t start-ok

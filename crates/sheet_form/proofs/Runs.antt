@@ -10,7 +10,7 @@ use lib.ListN.{length, length-append}
 use Rattle.sheet_form.specs.Form.{Values, Line, Sheet, each, Each, decimal, withComma, valuesText, kindText, lineText, setText, sheetText, Small, ValuesOk, LineOk, Formed}
 use Rattle.tasks.specs.Sets.{nameByte}
 use Rattle.sheet_form.specs.Machine.{Field, deadline, runs, gaps, State, name, line, field, ender, many, add, close, digit, step, run, start}
-use Rattle.sheet_form.proofs.Tests.{so, below}
+use Rattle.arena.proofs.Tests.{T-true, lt-or-le}
 use Rattle.sheet_form.proofs.Shown.{decimal-low, decimal-high}
 
 pub run-append : (s : State) (t u : List ℕ) → run s (t ++ u) ≡ run (run s t) u
@@ -31,7 +31,7 @@ same {s} {r} e h = record { ends = ap (λ x. run s x) e ∙ h .ends }
 
 name-byte : (n : List ℕ) (b : ℕ) → T (nameByte b) → length n < 16 → step (name n) b ≡ name (n ++ (b ∷ []))
 unfolding step
-name-byte n b t h = rw (so (nameByte b) t, so (ltb (length n) 16) (lt→ltb (length n) 16 h)) refl
+name-byte n b t h = rw (T-true (nameByte b) t, T-true (ltb (length n) 16) (lt→ltb (length n) 16 h)) refl
 
 name-run : (n m : List ℕ) → Each (λ b. T (nameByte b)) m → length n + length m ≤ 16 → run (name n) m ≡ name (n ++ m)
 name-run n [] h l = ap name (sym (append-nil n))
@@ -42,16 +42,16 @@ name-run n (b ∷ m) h l =
 
 name-end : (n : List ℕ) → 1 ≤ length n → step (name n) 10 ≡ line (record { name = n; lines = [] })
 unfolding step nameByte
-name-end n h = rw (so (ltb 0 (length n)) (lt→ltb 0 (length n) h)) refl
+name-end n h = rw (T-true (ltb 0 (length n)) (lt→ltb 0 (length n) h)) refl
 
 digit-value : (v b n : ℕ) → 48 ≤ b → b ≤ 57 → n ≤ 16 → n ≡ 10 * v + (b - 48) → digit v b ≡ n
 unfolding digit
 digit-value v b n p q r e =
-    rw (so (leb 48 b) (le→leb 48 b p), so (leb b 57) (le→leb b 57 q), ← e, so (leb n 16) (le→leb n 16 r)) refl
+    rw (T-true (leb 48 b) (le→leb 48 b p), T-true (leb b 57) (le→leb b 57 q), ← e, T-true (leb n 16) (le→leb n 16 r)) refl
 
 field-digit : (f : Field) (xs : List ℕ) (v b n : ℕ) → 48 ≤ b → b ≤ 57 → n ≤ 16 → 0 < n → n ≡ 10 * v + (b - 48) → step (field f xs v) b ≡ field f xs n
 unfolding step
-field-digit f xs v b n p q r z e = rw (digit-value v b n p q r e, so (ltb 0 n) (lt→ltb 0 n z)) refl
+field-digit f xs v b n p q r z e = rw (digit-value v b n p q r e, T-true (ltb 0 n) (lt→ltb 0 n z)) refl
 
 number-run : (f : Field) (xs : List ℕ) (v : ℕ) → Small v → RunsTo (field f xs 0) (decimal v) (field f xs v)
 number-run f xs v h =
@@ -60,19 +60,19 @@ number-run f xs v h =
     (λ l. same (decimal-high v l)
     (then (one (field-digit f xs 0 (48 + v / 10) (v / 10) (omega arith) (omega arith) (omega arith) (omega arith) (omega arith)))
     (one (field-digit f xs (v / 10) (48 + v % 10) v (omega arith) (omega arith) (h .high) (h .low) (omega arith)))))
-    (below v 10)
+    (lt-or-le v 10)
 
 comma-run : (f : Field) (xs : List ℕ) (v : ℕ) → T (many f) → 1 ≤ v → step (field f xs v) 44 ≡ field f (xs ++ (v ∷ [])) 0
 unfolding step digit
 comma-run (deadline s h) xs v t p = absurd t
-comma-run (runs s h d) xs v t p = rw (so (ltb 0 v) (lt→ltb 0 v p)) refl
-comma-run (gaps s h d c) xs v t p = rw (so (ltb 0 v) (lt→ltb 0 v p)) refl
+comma-run (runs s h d) xs v t p = rw (T-true (ltb 0 v) (lt→ltb 0 v p)) refl
+comma-run (gaps s h d c) xs v t p = rw (T-true (ltb 0 v) (lt→ltb 0 v p)) refl
 
 close-run : (f : Field) (xs : List ℕ) (v : ℕ) → 1 ≤ v → step (field f xs v) (ender f) ≡ close f xs v
 unfolding step digit
-close-run (deadline s h) xs v p = rw (so (ltb 0 v) (lt→ltb 0 v p)) refl
-close-run (runs s h d) xs v p = rw (so (ltb 0 v) (lt→ltb 0 v p)) refl
-close-run (gaps s h d c) xs v p = rw (so (ltb 0 v) (lt→ltb 0 v p)) refl
+close-run (deadline s h) xs v p = rw (T-true (ltb 0 v) (lt→ltb 0 v p)) refl
+close-run (runs s h d) xs v p = rw (T-true (ltb 0 v) (lt→ltb 0 v p)) refl
+close-run (gaps s h d c) xs v p = rw (T-true (ltb 0 v) (lt→ltb 0 v p)) refl
 
 firsts-run : (f : Field) (ys xs : List ℕ) → T (many f) → Each Small xs → RunsTo (field f ys 0) (each withComma xs) (field f (ys ++ xs) 0)
 firsts-run f ys [] t h = record { ends = ap (λ l. field f l 0) (sym (append-nil ys)) }
@@ -86,8 +86,8 @@ values-run f l t h = then (firsts-run f [] (l .firsts) t (h .firsts)) (number-ru
 
 kind-run : (s : Sheet) (h : Bool) → length (s .lines) < 7 → RunsTo (line s) (kindText h) (field (deadline s h) [] 0)
 unfolding step
-kind-run s true r = record { ends = rw (so (ltb (length (s .lines)) 7) (lt→ltb (length (s .lines)) 7 r)) refl }
-kind-run s false r = record { ends = rw (so (ltb (length (s .lines)) 7) (lt→ltb (length (s .lines)) 7 r)) refl }
+kind-run s true r = record { ends = rw (T-true (ltb (length (s .lines)) 7) (lt→ltb (length (s .lines)) 7 r)) refl }
+kind-run s false r = record { ends = rw (T-true (ltb (length (s .lines)) 7) (lt→ltb (length (s .lines)) 7 r)) refl }
 
 line-run : (s : Sheet) (l : Line) → length (s .lines) < 7 → LineOk l → RunsTo (line s) (lineText l) (line (add s l))
 unfolding lineText

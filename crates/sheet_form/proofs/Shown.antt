@@ -11,7 +11,8 @@ use lib.Seq.{take-suc, take-all}
 use Rattle.sheet_form.specs.Form.{Line, Sheet, each, Each, decimal, withComma, valuesText, kindText, lineText, setText, sheetText, Small, ValuesOk, LineOk, NameOk}
 use Rattle.tasks.specs.Sets.{nameByte}
 use Rattle.sheet_form.specs.Machine.{Word, opening, kind, Field, deadline, runs, gaps, State, word, name, line, field, fault, spell, after, ender, many, close, digit, step}
-use Rattle.sheet_form.proofs.Tests.{so, not-so, and-left, and-right, by-cond, each-snoc, Each-snoc}
+use Rattle.arena.proofs.Tests.{T-true, T-false, and-left, and-right}
+use Rattle.sheet_form.proofs.Tests.{by-cond, each-snoc, Each-snoc}
 
 -- the digits of a number begun
 abbrev pub begun : ℕ → List ℕ
@@ -127,11 +128,11 @@ line-reads s b o =
 
 pub decimal-low : (v : ℕ) → v < 10 → decimal v ≡ (48 + v) ∷ []
 unfolding decimal
-decimal-low v h = rw (so (ltb v 10) (lt→ltb v 10 h)) refl
+decimal-low v h = rw (T-true (ltb v 10) (lt→ltb v 10 h)) refl
 
 pub decimal-high : (v : ℕ) → 10 ≤ v → decimal v ≡ (48 + v / 10) ∷ (48 + v % 10) ∷ []
 unfolding decimal
-decimal-high v h = rw (not-so (ltb v 10) (not-T (ltb v 10) (λ t. let l : v < 10 = ltb→lt v 10 t in omega arith))) refl
+decimal-high v h = rw (T-false (ltb v 10) (not-T (ltb v 10) (λ t. let l : v < 10 = ltb→lt v 10 t in omega arith))) refl
 
 begun-decimal : (v : ℕ) → 0 < v → begun v ≡ decimal v
 begun-decimal zero h = let z : ⊥ = omega arith in absurd z

@@ -1,23 +1,24 @@
 -- A set and its sheet say the same, both ways. Assumes nothing.
 use mathlib.Core.Path.{_≡_, refl, sym, ap, ap₂, _∙_, subst}
+use mathlib.Core.Logic.{⊎-elim}
 use mathlib.Core.Bool.{Bool, true, false, cond}
 use mathlib.Core.List.{List, [], _∷_, _++_, map}
 use Prim.Native.Nat.{ℕ, zero, suc, _-_, _≤_, _<_}
 use native.Mathlib.Omega.{arith}
 use lib.Dec.{T, eqb}
-use lib.ListN.{length, take, replicate, length-append, length-replicate, length-map}
+use lib.ListN.{length, take, replicate, length-map}
 use lib.Seq.{take-at}
 use Rattle.tasks.specs.declared.sets.Task.{Task}
 use Rattle.tasks.specs.declared.sets.Set.{Set}
-use Rattle.tasks.specs.Lists.{values, lengthOf}
+use Rattle.tasks.specs.Lists.{lengthOf}
 use Rattle.tasks.specs.Sets.{nameByte, characters, noTask}
-use Rattle.sheet_form.specs.Form.{Values, Line, Sheet, Each, LineOk, Formed, sheetText}
-use Rattle.sheet_form.specs.Sets.{numbers, rising, bits, listOf, kindOf, taskOf, padded, setOf, lineOf, sheetOf, textOf, Sized}
-use Rattle.sheet_form.proofs.Tests.{so, Each-take}
-use Rattle.sheet_form.proofs.Bits.{list-back, bits-said}
-use Rattle.tasks.proofs.Valid as Rules
-use Rattle.sheet_form.proofs.Valid.{valid}
-use Rattle.sheet_form.specs.Valid.{TaskOk, Valid}
+use Rattle.sheet_form.specs.Form.{Values, Line, Sheet, Each, Small, LineOk, Formed, sheetText}
+use Rattle.sheet_form.specs.Sets.{rising, listOf, kindOf, taskOf, padded, setOf, lineOf, sheetOf, textOf, Wide, Sized}
+use Rattle.arena.proofs.Tests.{decide, T-true, T-false}
+use Rattle.sheet_form.proofs.Tests.{Each-take}
+use Rattle.sheet_form.proofs.Bits.{kept-none, list-back, bits-said}
+use Rattle.tasks.proofs.Valid.{ValidTask, Valid}
+use Rattle.sheet_form.proofs.Valid.{name-ok, name-rest, task-count, tasks-ok, tasks-rest}
 
 pub record LineRises (l : Line) : Type 0 where
   pub runs : T (rising (l .runs))
@@ -38,15 +39,15 @@ lines-back [] h r = refl
 lines-back (l ∷ ls) h r = ap₂ (λ x y. x ∷ y) (line-back l (h .0) (r .0)) (lines-back ls (h .1) (r .1))
 
 -- zero bytes are no characters
-none-of-zeros : (k : ℕ) → characters (replicate k 0) ≡ 0
+pub none-of-zeros : (k : ℕ) → characters (replicate k 0) ≡ 0
 unfolding characters nameByte
 none-of-zeros zero = refl
 none-of-zeros (suc k) = refl
 
-characters-back : (n z : List ℕ) → Each (λ b. T (nameByte b)) n → characters z ≡ 0 → characters (n ++ z) ≡ length n
+pub characters-back : (n z : List ℕ) → Each (λ b. T (nameByte b)) n → characters z ≡ 0 → characters (n ++ z) ≡ length n
 unfolding characters
 characters-back [] z h e = e
-characters-back (b ∷ n) z h e = ap (λ c. cond c (suc (characters (n ++ z))) 0) (so (nameByte b) (h .0)) ∙ ap suc (characters-back n z (h .1) e)
+characters-back (b ∷ n) z h e = ap (λ c. cond c (suc (characters (n ++ z))) 0) (T-true (nameByte b) (h .0)) ∙ ap suc (characters-back n z (h .1) e)
 
 -- the set of a sheet whose lists rise has that very sheet
 pub sheet-back : (s : Sheet) → Formed s → Each LineRises (s .lines) → sheetOf (setOf s) ≡ s
@@ -58,31 +59,21 @@ sheet-back s h r =
       lines = (ap (map lineOf) (take-at (map taskOf (s .lines)) (replicate (7 - length (map taskOf (s .lines))) noTask) (length (s .lines)) (length-map (s .lines) taskOf)) ∙ lines-back (s .lines) (h .lines) r) i;
     }
 
--- a list that is kept rises: one that does not is kept as an empty one
+-- a list that is kept rises
 kept-rises : (l : Values) → 0 < lengthOf (listOf l) → T (rising l)
-unfolding listOf lengthOf values
-kept-rises l = go (rising l)
-  where
-    go : (b : Bool) → 0 < lengthOf (cond b (bits (numbers l)) 0) → T b
-    go true h = tt
-    go false h = let z : ⊥ = omega arith in absurd z
+kept-rises l h = ⊎-elim (λ t. t) (λ t. absurd (omega (arith, kept-none l (T-false (rising l) t)))) (decide (rising l))
 
-lines-rise : (ls : List Line) → Each TaskOk (map taskOf ls) → Each LineRises ls
+lines-rise : (ls : List Line) → Each ValidTask (map taskOf ls) → Each LineRises ls
 lines-rise [] h = tt
 lines-rise (l ∷ ls) h = (record { runs = kept-rises (l .runs) (h .0 .runs); gaps = kept-rises (l .gaps) (h .0 .gaps) }, lines-rise ls (h .1))
 
-padded-length : {A : Type 0} (n : ℕ) (d : A) (xs : List A) → length xs ≤ n → length (padded n d xs) ≡ n
-unfolding padded
-padded-length n d xs h = omega (arith, length-append xs (replicate (n - length xs) d), length-replicate (n - length xs) d)
-
 -- a sheet whose set passes the test is the one that the set has
-pub text-back : (s : Sheet) → Formed s → Rules.Valid (setOf s) → textOf (setOf s) ≡ sheetText s
+pub text-back : (s : Sheet) → Formed s → Valid (setOf s) → textOf (setOf s) ≡ sheetText s
 unfolding padded
-text-back s h p =
-    let e = length-map (s .lines) taskOf in
-    let v = valid (setOf s) (padded-length 16 0 (s .name) (h .name .high)) (padded-length 7 noTask (map taskOf (s .lines)) (omega (arith, h .high))) p in
-    let k : take (length (s .lines)) (padded 7 noTask (map taskOf (s .lines))) ≡ map taskOf (s .lines) = take-at (map taskOf (s .lines)) (replicate (7 - length (map taskOf (s .lines))) noTask) (length (s .lines)) e in
-    ap sheetText (sheet-back s h (lines-rise (s .lines) (subst (Each TaskOk) k (v .tasks))))
+text-back s h v =
+    let ts = map taskOf (s .lines) in
+    let e : take (length (s .lines)) (padded 7 noTask ts) ≡ ts = take-at ts (replicate (7 - length ts) noTask) (length (s .lines)) (length-map (s .lines) taskOf) in
+    ap sheetText (sheet-back s h (lines-rise (s .lines) (subst (Each ValidTask) e (tasks-ok (setOf s) v))))
 
 -- FROM A VALID SET TO ITS SHEET AND BACK
 
@@ -91,32 +82,35 @@ kind-again zero h = refl
 kind-again (suc zero) h = refl
 kind-again (suc (suc k)) h = let z : ⊥ = omega arith in absurd z
 
--- both lists fit 16 bits
-abbrev Wide : Task → Type 0
-Wide τ = (τ .runs < 65536) × (τ .gaps < 65536)
+small : (n : ℕ) → (1 ≤ n) × (n ≤ 16) → Small n
+small n h = record { low = h .0; high = h .1 }
 
-lines-ok : (ts : List Task) → Each TaskOk ts → Each LineOk (map lineOf ts)
+lines-ok : (ts : List Task) → Each ValidTask ts → Each LineOk (map lineOf ts)
 lines-ok [] h = tt
-lines-ok (τ ∷ ts) h = (record { deadline = h .0 .deadline; runs = bits-said (τ .runs) (h .0 .runs) .ok; gaps = bits-said (τ .gaps) (h .0 .gaps) .ok }, lines-ok ts (h .1))
+lines-ok (τ ∷ ts) h = (record { deadline = small (τ .deadline) (h .0 .deadline); runs = bits-said (τ .runs) (h .0 .runs) .ok; gaps = bits-said (τ .gaps) (h .0 .gaps) .ok }, lines-ok ts (h .1))
 
-task-back : (τ : Task) → TaskOk τ → Wide τ → taskOf (lineOf τ) ≡ τ
+task-back : (τ : Task) → ValidTask τ → Wide τ → taskOf (lineOf τ) ≡ τ
 task-back τ h w =
     λ i. record { kind = kind-again (τ .kind) (h .kind) i; deadline = τ .deadline; runs = bits-said (τ .runs) (h .runs) .kept (w .0) i; gaps = bits-said (τ .gaps) (h .gaps) .kept (w .1) i }
 
-tasks-back : (ts : List Task) → Each TaskOk ts → Each Wide ts → map taskOf (map lineOf ts) ≡ ts
+tasks-back : (ts : List Task) → Each ValidTask ts → Each Wide ts → map taskOf (map lineOf ts) ≡ ts
 tasks-back [] h w = refl
 tasks-back (τ ∷ ts) h w = ap₂ (λ x y. x ∷ y) (task-back τ (h .0) (w .0)) (tasks-back ts (h .1) (w .1))
 
 line-count : (s : Set) → Valid s → length (sheetOf s .lines) ≡ s .count
-line-count s v = length-map (take (s .count) (s .tasks)) lineOf ∙ v .count
+line-count s v = length-map (take (s .count) (s .tasks)) lineOf ∙ task-count s v
 
-pub sheet-formed : (s : Set) → Valid s → Formed (sheetOf s)
-sheet-formed s v =
+pub sheet-formed : (s : Set) → length (s .name) ≡ 16 → Valid s → Formed (sheetOf s)
+sheet-formed s l v =
     let e = line-count s v in
-    record { name = v .name; lines = lines-ok (take (s .count) (s .tasks)) (v .tasks); low = omega (arith, v .low); high = omega (arith, v .high) }
+    record { name = name-ok (s .name) (v .name) l; lines = lines-ok (take (s .count) (s .tasks)) (tasks-ok s v); low = omega (arith, v .count .0); high = omega (arith, v .count .1) }
 
 -- the sheet of a valid set says that very set
 pub set-back : (s : Set) → Sized s → Valid s → setOf (sheetOf s) ≡ s
 set-back s z v =
     let ts = take (s .count) (s .tasks) in
-    λ i. record { name = sym (v .name-rest) i; count = line-count s v i; tasks = (ap (padded 7 noTask) (tasks-back ts (v .tasks) (Each-take Wide (s .count) (s .tasks) (z .lists))) ∙ sym (v .rest)) i }
+    λ i. record {
+      name = sym (name-rest (s .name) (v .name) (z .name)) i;
+      count = line-count s v i;
+      tasks = (ap (padded 7 noTask) (tasks-back ts (tasks-ok s v) (Each-take Wide (s .count) (s .tasks) (z .lists))) ∙ sym (tasks-rest s v (z .tasks))) i;
+    }

@@ -72,6 +72,10 @@ setText = 115 ∷ 101 ∷ 116 ∷ 32 ∷ []
 abbrev pub sheetText : Sheet → List ℕ
 sheetText s = setText ++ s .name ++ lf ++ each lineText (s .lines)
 
+-- at most 1,024 bytes
+abbrev pub longest : ℕ
+longest = 1024
+
 -- WHAT COUNTS: numbers 1 to 16, names, and 1 to 7 tasks
 
 pub record Small (v : ℕ) : Type 0 where

@@ -1,4 +1,3 @@
 pub mod Form
 pub mod Machine
 pub mod Sets
-pub mod Valid

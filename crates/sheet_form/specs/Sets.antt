@@ -2,13 +2,15 @@
 use mathlib.Core.Path.{_≡_}
 use mathlib.Core.Bool.{Bool, true, _&&_, cond}
 use mathlib.Core.List.{List, [], _∷_, _++_, map}
-use Prim.Native.Nat.{ℕ, _+_, _-_, _^_, _<_}
+use Prim.Native.Nat.{ℕ, suc, _+_, _-_, _^_, _<_}
 use lib.Dec.{ltb, eqb}
 use lib.ListN.{length, take, replicate}
 use Rattle.tasks.specs.declared.sets.Task.{Task}
 use Rattle.tasks.specs.declared.sets.Set.{Set}
-use Rattle.tasks.specs.Lists.{valuesOf}
-use Rattle.tasks.specs.Sets.{characters, noTask}
+use Rattle.tasks.specs.declared.sets.Tested.{Tested}
+use Rattle.tasks.specs.Lists.{valuesOf, headOr}
+use Rattle.tasks.specs.Refusals.{badRecord, runTimeAboveDeadline, gapBelowDeadline}
+use Rattle.tasks.specs.Sets.{characters, noTask, refuseOr}
 use Rattle.sheet_form.specs.Form.{Values, Line, Sheet, Each, sheetText}
 
 -- FROM A SHEET TO A SET
@@ -47,6 +49,19 @@ padded n d xs = xs ++ replicate (n - length xs) d
 abbrev pub setOf : Sheet → Set
 setOf s = record { name = padded 16 0 (s .name); count = length (s .lines); tasks = padded 7 noTask (map taskOf (s .lines)) }
 
+-- what a line is refused with, 0 for nothing: a list that does not rise, then cmax above D, then the shortest gap below D
+unfoldable pub lineFault : Line → ℕ
+lineFault l =
+    cond (rising (l .runs) && rising (l .gaps))
+    (cond (ltb (l .deadline) (l .runs .final)) runTimeAboveDeadline
+    (cond (ltb (headOr 0 (numbers (l .gaps))) (l .deadline)) gapBelowDeadline 0))
+    badRecord
+
+-- the lowest task at fault of the lines from that of task i + 1 on, and t where there is none
+abbrev pub lowestLine : ℕ → List Line → Tested → Tested
+lowestLine i [] t = t
+lowestLine i (l ∷ ls) t = refuseOr (lineFault l) (suc i) (lowestLine (suc i) ls t)
+
 -- a set of zeros
 abbrev pub noSet : Set
 noSet = record { name = replicate 16 0; count = 0; tasks = replicate 7 noTask }
@@ -69,8 +84,12 @@ sheetOf s = record { name = take (characters (s .name)) (s .name); lines = map l
 abbrev pub textOf : Set → List ℕ
 textOf s = sheetText (sheetOf s)
 
+-- both lists fit 16 bits
+abbrev pub Wide : Task → Type 0
+Wide τ = (τ .runs < 65536) × (τ .gaps < 65536)
+
 -- what every set of the code has: 16 bytes of name, seven records, lists of 16 bits
 pub record Sized (s : Set) : Type 0 where
   pub name : length (s .name) ≡ 16
   pub tasks : length (s .tasks) ≡ 7
-  pub lists : Each (λ (τ : Task). (τ .runs < 65536) × (τ .gaps < 65536)) (s .tasks)
+  pub lists : Each Wide (s .tasks)

@@ -1,127 +1,110 @@
--- Reading, by what one pass over the text finds. Assumes nothing.
+-- What reading answers, refusal by refusal. Assumes nothing.
 use mathlib.Core.Path.{_≡_, refl, sym, ap, subst, _∙_}
-use mathlib.Core.Bool.{Bool, true, false, cond}
-use mathlib.Core.List.{List}
-use Prim.Native.Nat.{ℕ, _≤_, _<_}
-use native.Mathlib.Nat.{le-refl}
+use mathlib.Core.Bool.{Bool, true, false, _&&_, cond}
+use mathlib.Core.List.{List, _∷_, _++_}
+use Prim.Native.Nat.{ℕ, _+_, _≤_, _<_}
 use native.Mathlib.Omega.{arith}
 use lib.Dec.{ltb}
 use lib.ListN.{length}
-use borrow.Author.Tests.{lt-ltb, le-ltb, ltb-false}
+use borrow.Author.Tests.{ltb-false}
 use Rattle.tasks.specs.declared.refusals.Refusal.{Refusal}
-use Rattle.tasks.specs.declared.sets.Set.{Set}
 use Rattle.tasks.specs.declared.sets.Tested.{Tested}
 use Rattle.tasks.specs.declared.sets.Tested.the-variants.{States, Refused as FailedWith}
-use Rattle.tasks.specs.Refusals.{refusing, sheetTooLong, sheetForm}
-use Rattle.tasks.specs.Sets.{testSet}
-use Rattle.sheet_form.specs.Form.{FaultAt, Form, fits, stops}
-use Rattle.sheet_form.specs.Sets.{setOf}
-use Rattle.sheet_form.proofs.Valid.{test-from}
-use Rattle.sheet_form.proofs.Places.{one-fault, fault-no-member, one-sheet, form}
-use Rattle.sheet_scan.specs.declared.Scanned.{Scanned}
-use Rattle.sheet_scan.specs.Scan.{scanOf, scanText}
+use Rattle.tasks.specs.Refusals.{refusing, sheetTooLong, sheetForm, badRecord}
+use Rattle.tasks.specs.Sets.{testStates, testSet}
+use Rattle.sheet_form.specs.Form.{Line, Sheet, Each, Formed, longest, Member, FaultAt, Form, fits, stops}
+use Rattle.sheet_form.specs.Sets.{rising, setOf, lineFault, lowestLine}
+use Rattle.sheet_form.proofs.Tests.{by-cond}
+use Rattle.sheet_form.proofs.Faults.{lines-tested, lowest-at, not-rising, refused-own}
+use Rattle.sheet_form.proofs.Places.{form}
 use Rattle.sheet_reader.specs.declared.SheetRead.{SheetRead}
-use Rattle.sheet_reader.specs.declared.ReadAnswer.the-variants.{Taken}
-use Rattle.sheet_reader.specs.Reading.{longest, refusedWith, longRead, faultRead, testedRead, formRead, readOf, readText, formReach, reachText, saidRead}
-
--- whatever shows a text to be a sheet's, or to stop at a place, gives the one answer
-one-read : (t : List ℕ) (f g : Form t) → formRead t f ≡ formRead t g
-one-read t (fits m) (fits n) = ap (λ s. testedRead (setOf s) (testSet (setOf s))) (one-sheet t m n)
-one-read t (fits m) (stops p e) = absurd (fault-no-member t p e m)
-one-read t (stops p e) (fits m) = absurd (fault-no-member t p e m)
-one-read t (stops p e) (stops q f) = ap faultRead (one-fault t p q e f)
-
-pub read-by : (t : List ℕ) (f : Form t) → readText t ≡ readOf t f
-unfolding readText
-read-by t f = ap (cond (ltb longest (length t)) longRead) (one-read t (form t) f)
+use Rattle.sheet_reader.specs.declared.ReadAnswer.{ReadAnswer}
+use Rattle.sheet_reader.specs.declared.ReadAnswer.the-variants.{Taken, Refused}
+use Rattle.sheet_reader.proofs.Passes.{read-short, reach-short}
+use Rattle.sheet_reader.specs.Reading.{refusedWith, longRead, faultRead, testedRead, formRead, readText, reachText, setValues, saidAnswer, saidRead}
 
 -- REFUSAL 2: reading answers it, at the place p, exactly if the text is not too long and its form is at fault at p
 
 pub fault-read : (t : List ℕ) (p : ℕ) → length t ≤ longest → FaultAt t p → readText t ≡ faultRead p
-fault-read t p h f = read-by t (stops p f) ∙ ap (λ b. cond b longRead (faultRead p)) (le-ltb longest (length t) h)
+fault-read t p h f = read-short t h (stops p f)
 
-number : SheetRead → ℕ
-number r = saidRead r .number
+module _ (t : List ℕ) (p : ℕ) where
+  -- a sheet's set is refused with 3 to 6, and never with 2
+  tested-fault : (m : Member t) (r : Tested) → testSet (setOf (m .sheet)) ≡ r → testedRead (setOf (m .sheet)) r ≡ faultRead p → ⊥
+  tested-fault m (States n) e g = let h = ap (λ (x : SheetRead). x .answer) g in let z : _≡_ {A = ℕ} 0 1 = cc in omega arith
+  tested-fault m (FailedWith f) e g = omega (arith, refused-own (m .sheet) (m .formed) f e .0, ap (λ x. saidRead x .number) g)
 
-tested-number : (s : Set) (r : Tested) → testSet s ≡ r → number (testedRead s r) ≡ sheetForm → ⊥
-unfolding number
-tested-number s (States n) e g = omega arith
-tested-number s (FailedWith f) e g = omega (arith, test-from s f e)
+  formed-fault : (f : Form t) (c : Bool) → ltb longest (length t) ≡ c → cond c longRead (formRead t f) ≡ faultRead p → (length t ≤ longest) × FaultAt t p
+  formed-fault f true h e = let z : ⊥ = omega (arith, ap (λ x. saidRead x .number) e) in absurd z
+  formed-fault (stops q x) false h e = (ltb-false longest (length t) h, subst (FaultAt t) (ap (λ x. saidRead x .place) e) x)
+  formed-fault (fits m) false h e = absurd (tested-fault m (testSet (setOf (m .sheet))) refl e)
 
-formed-fault : (t : List ℕ) (f : Form t) (p : ℕ) (c : Bool) → ltb longest (length t) ≡ c → cond c longRead (formRead t f) ≡ faultRead p → (length t ≤ longest) × FaultAt t p
-unfolding number
-formed-fault t f p true h e = let z : _≡_ {A = ℕ} sheetTooLong sheetForm = ap number e in let y : ⊥ = omega arith in absurd y
-formed-fault t (stops q x) p false h e = (ltb-false longest (length t) h, subst (FaultAt t) (ap (λ r. saidRead r .place) e) x)
-formed-fault t (fits m) p false h e = absurd (tested-number (setOf (m .sheet)) (testSet (setOf (m .sheet))) refl (ap number e))
+  pub read-fault : readText t ≡ faultRead p → (length t ≤ longest) × FaultAt t p
+  unfolding readText
+  read-fault e = formed-fault (form t) (ltb longest (length t)) refl e
 
-pub read-fault : (t : List ℕ) (p : ℕ) → readText t ≡ faultRead p → (length t ≤ longest) × FaultAt t p
-unfolding readText
-read-fault t p e = formed-fault t (form t) p (ltb longest (length t)) refl e
+-- REFUSALS 3 TO 6: the lowest task at fault, then the number of states
 
--- an answer without a number is a set that was taken
-tested-taken : (s : Set) (r : Tested) → testSet s ≡ r → number (testedRead s r) ≡ 0 → testedRead s r .answer ≡ Taken
-unfolding number
-tested-taken s (States n) e g = refl
-tested-taken s (FailedWith f) e g = let z : ⊥ = omega (arith, test-from s f e) in absurd z
+pub read-lines : (t : List ℕ) (m : Member t) → length t ≤ longest
+    → readText t ≡ testedRead (setOf (m .sheet)) (lowestLine 0 (m .sheet .lines) (testStates (setOf (m .sheet))))
+read-lines t m h = read-short t h (fits m) ∙ ap (testedRead (setOf (m .sheet))) (lines-tested (m .sheet) (m .formed))
 
-formed-taken : (t : List ℕ) (f : Form t) (c : Bool) → number (cond c longRead (formRead t f)) ≡ 0 → cond c longRead (formRead t f) .answer ≡ Taken
-unfolding number
-formed-taken t f true g = let z : ⊥ = omega arith in absurd z
-formed-taken t (stops p x) false g = let z : ⊥ = omega arith in absurd z
-formed-taken t (fits m) false g = tested-taken (setOf (m .sheet)) (testSet (setOf (m .sheet))) refl g
+-- the line l of a sheet is the lowest at fault: the lines before it are without fault
+module _ (t : List ℕ) (m : Member t) (h : length t ≤ longest) (xs : List Line) (l : Line) (ys : List Line) (e : m .sheet .lines ≡ xs ++ (l ∷ ys)) (g : Each (λ x. lineFault x ≡ 0) xs) where
+  pub read-lowest : 0 < lineFault l → readText t ≡ refusedWith (record { number = lineFault l; place = length xs + 1 })
+  read-lowest p =
+      let s = setOf (m .sheet) in
+      let z : 0 + length xs + 1 ≡ length xs + 1 = omega arith in
+      read-lines t m h ∙ ap (λ ls. testedRead s (lowestLine 0 ls (testStates s))) e
+      ∙ ap (testedRead s) (lowest-at xs l ys 0 (testStates s) g p) ∙ ap (λ n. refusedWith (record { number = lineFault l; place = n })) z
 
+  -- a list of it does not rise
+  pub read-not-rising : (rising (l .runs) && rising (l .gaps)) ≡ false → readText t ≡ refusedWith (record { number = badRecord; place = length xs + 1 })
+  read-not-rising r =
+      let n : lineFault l ≡ badRecord = not-rising l r in
+      read-lowest (omega arith) ∙ ap (λ k. refusedWith (record { number = k; place = length xs + 1 })) n
+
+-- EVERY REFUSAL has a number of 1 to 6, and a set of zeros beside it
+
+module _ (f : Refusal) where
+  abbrev Bare : SheetRead → Type 0
+  Bare r = r .answer ≡ Refused f → (r ≡ refusedWith f) × (1 ≤ f .number) × (f .number ≤ 6)
+
+  bare : (x : Refusal) → (1 ≤ x .number) × (x .number ≤ 6) → Bare (refusedWith x)
+  bare x h e =
+      let g : x ≡ f = cc in
+      let n : x .number ≡ f .number = ap (λ (y : Refusal). y .number) g in
+      (ap refusedWith g, omega arith, omega arith)
+
+  bare-tested : (s : Sheet) → Formed s → (r : Tested) → testSet (setOf s) ≡ r → Bare (testedRead (setOf s) r)
+  bare-tested s h (States n) e g = let z : _≡_ {A = ℕ} 0 1 = cc in absurd (omega arith)
+  bare-tested s h (FailedWith x) e g = let k = refused-own s h x e in bare x (omega arith, omega arith) g
+
+  bare-formed : (t : List ℕ) (x : Form t) → Bare (formRead t x)
+  bare-formed t (stops p d) = bare (record { number = sheetForm; place = p }) (omega arith)
+  bare-formed t (fits m) = bare-tested (m .sheet) (m .formed) (testSet (setOf (m .sheet))) refl
+
+  pub refused-zeros : (t : List ℕ) → readText t .answer ≡ Refused f → (readText t ≡ refusedWith f) × (1 ≤ f .number) × (f .number ≤ 6)
+  unfolding readText
+  refused-zeros t =
+      by-cond Bare (ltb longest (length t)) (λ b. bare (record { number = sheetTooLong; place = 0 }) (omega arith)) (λ b. bare-formed t (form t))
+
+  -- in the paper's terms: zeros for the 45 values of a set
+  pub refused-said : (t : List ℕ) → readText t .answer ≡ Refused f → saidRead (readText t) ≡ refusing 45 f
+  refused-said t e = ap saidRead (refused-zeros t e .0)
+
+-- so an answer without a number is a set that was taken
 pub read-taken : (t : List ℕ) (q : SheetRead) → q ≡ readText t → saidRead q .number ≡ 0 → q .answer ≡ Taken
-unfolding readText number
-read-taken t q e g = ap (λ (r : SheetRead). r .answer) e ∙ formed-taken t (form t) (ltb longest (length t)) (sym (ap number e) ∙ g)
-
--- a refusal has zeros beside it
-pub refused-zeros : (f : Refusal) → saidRead (refusedWith f) ≡ refusing 45 f
-refused-zeros f = refl
-
--- BY THE PASS
-
-pub read-long : (t : List ℕ) → longest < length t → readText t ≡ longRead
-unfolding readText
-read-long t h = ap (λ b. cond b longRead (formRead t (form t))) (lt-ltb longest (length t) h)
-
--- what the pass finds, answered
-abbrev scanRead : Scanned → SheetRead
-scanRead s = cond (s .whole) (testedRead (s .set) (testSet (s .set))) (faultRead (s .reach))
-
-read-scan : (t : List ℕ) → length t ≤ longest → readText t ≡ scanRead (scanText t)
-unfolding readText scanText
-read-scan t h = ap (λ b. cond b longRead (formRead t (form t))) (le-ltb longest (length t) h) ∙ go (form t)
+read-taken t q e g = go (q .answer) refl
   where
-    go : (f : Form t) → formRead t f ≡ scanRead (scanOf t f)
-    go (fits m) = refl
-    go (stops p e) = refl
+    go : (a : ReadAnswer) → q .answer ≡ a → q .answer ≡ Taken
+    go Taken k = k
+    go (Refused f) k = let z : ⊥ = omega (arith, refused-zeros f t (sym (ap (λ (r : SheetRead). r .answer) e) ∙ k) .1, ap (λ a. saidAnswer a (setValues (q .set)) .number) k) in absurd z
 
-module _ (t : List ℕ) (s : Scanned) (h : length t ≤ longest) (e : s ≡ scanText t) where
-  by-pass : readText t ≡ scanRead s
-  by-pass = read-scan t h ∙ ap scanRead (sym e)
+-- WHERE A READER THEN STANDS: at the end of a sheet, at the place of a fault of form, and where it was in a text that is too long (`reach-long`)
 
-  pub read-faulty : s .whole ≡ false → readText t ≡ faultRead (s .reach)
-  read-faulty w = by-pass ∙ ap (λ b. cond b (testedRead (s .set) (testSet (s .set))) (faultRead (s .reach))) w
+pub reach-sheet : (t : List ℕ) → length t ≤ longest → Member t → reachText t ≡ length t
+reach-sheet t h m = reach-short t h (fits m)
 
-  pub read-tested : s .whole ≡ true → (r : Tested) → testSet (s .set) ≡ r → readText t ≡ testedRead (s .set) r
-  read-tested w r q = by-pass ∙ ap (λ b. cond b (testedRead (s .set) (testSet (s .set))) (faultRead (s .reach))) w ∙ ap (testedRead (s .set)) q
-
-pub scan-within : (t : List ℕ) → scanText t .reach ≤ length t
-unfolding scanText
-scan-within t = go (form t)
-  where
-    go : (f : Form t) → scanOf t f .reach ≤ length t
-    go (fits m) = le-refl (length t)
-    go (stops p e) = e .within
-
-pub reach-long : (t : List ℕ) → longest < length t → reachText t ≡ 0
-unfolding reachText
-reach-long t h = ap (λ b. cond b 0 (formReach t (form t))) (lt-ltb longest (length t) h)
-
-pub reach-scan : (t : List ℕ) → length t ≤ longest → reachText t ≡ scanText t .reach
-unfolding reachText scanText
-reach-scan t h = ap (λ b. cond b 0 (formReach t (form t))) (le-ltb longest (length t) h) ∙ go (form t)
-  where
-    go : (f : Form t) → formReach t f ≡ scanOf t f .reach
-    go (fits m) = refl
-    go (stops p e) = refl
+pub reach-fault : (t : List ℕ) (p : ℕ) → length t ≤ longest → FaultAt t p → reachText t ≡ p
+reach-fault t p h f = reach-short t h (stops p f)

@@ -11,16 +11,12 @@ use Rattle.tasks.specs.declared.sets.Tested.{Tested}
 use Rattle.tasks.specs.declared.sets.Tested.the-variants.{States, Refused as FailedWith}
 use Rattle.tasks.specs.Refusals.{Said, answered, sheetTooLong, sheetForm}
 use Rattle.tasks.specs.Sets.{testSet}
-use Rattle.sheet_form.specs.Form.{Form, fits, stops}
+use Rattle.sheet_form.specs.Form.{longest, Form, fits, stops}
 use Rattle.sheet_form.specs.Sets.{setOf, noSet}
 use Rattle.sheet_form.proofs.Places.{form}
 use Rattle.sheet_reader.specs.declared.ReadAnswer.{ReadAnswer}
 use Rattle.sheet_reader.specs.declared.SheetRead.{SheetRead}
 use Rattle.sheet_reader.specs.declared.ReadAnswer.the-variants.{Taken, Refused}
-
--- a sheet has at most 1,024 bytes
-abbrev pub longest : ℕ
-longest = 1024
 
 -- a refusal returns zeros beside it
 abbrev pub refusedWith : Refusal → SheetRead
@@ -39,16 +35,14 @@ faultRead p = refusedWith (record { number = sheetForm; place = p })
 abbrev pub longRead : SheetRead
 longRead = refusedWith (record { number = sheetTooLong; place = 0 })
 
+-- by the form of the text: its fault, or the test of the set that it says
 abbrev pub formRead : (t : List ℕ) → Form t → SheetRead
 formRead t (stops p f) = faultRead p
 formRead t (fits m) = testedRead (setOf (m .sheet)) (testSet (setOf (m .sheet)))
 
-abbrev pub readOf : (t : List ℕ) → Form t → SheetRead
-readOf t f = cond (ltb longest (length t)) longRead (formRead t f)
-
--- what reading a text answers: every text has a form (`form`), and only one (`read-by`)
+-- 1, 2, then 3 to 6: every text has a form (`form`), and whatever shows it gives the one answer (`read-short`)
 unfoldable pub readText : List ℕ → SheetRead
-readText t = readOf t (form t)
+readText t = cond (ltb longest (length t)) longRead (formRead t (form t))
 
 -- how many bytes a reader moves on by: to the end of a sheet or to the place of a fault of form, and not at all in a text that is too long
 abbrev pub formReach : (t : List ℕ) → Form t → ℕ

@@ -1,5 +1,6 @@
 // The reader of sheets, over a text and a place of it.
 use sheet_fields::state;
+use sheet_form::LONGEST;
 use sheet_scan::scan;
 use tasks::refusals;
 use tasks::refusals::Refusal;
@@ -10,9 +11,6 @@ ghost use mathlib.Core.Path.{_≡_};
 ghost use Prim.Native.Nat.{_+_};
 ghost use lib.ListN.{length, drop};
 ghost use Rattle.sheet_reader.specs.Reading.{refusedWith, readText, reachText};
-
-// How long a sheet may be.
-pub const LONGEST: usize = 1024;
 
 // What reading a sheet answers, beside the set.
 pub enum ReadAnswer {

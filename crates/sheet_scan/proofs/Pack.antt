@@ -1,7 +1,7 @@
 -- The code's step is the machine's: what the code keeps of a state, and that a byte leads from what is kept to what is kept. Assumes nothing.
 use mathlib.Core.Path.{_≡_, refl, sym, ap, _∙_}
 use mathlib.Core.Bool.{Bool, true, false, not, _&&_, cond}
-use mathlib.Core.List.{List, [], _∷_, _++_, append-assoc, map}
+use mathlib.Core.List.{List, [], _∷_, _++_, append-assoc, map, map-append}
 use Prim.Native.Nat.{ℕ, suc, _+_, _-_, _<_}
 use native.Mathlib.Omega.{arith}
 use native.Mathlib.Numerals.{add-one}
@@ -15,7 +15,7 @@ use Rattle.sheet_form.specs.Form.{Values, Line, Sheet, setText, kindText}
 use Rattle.sheet_form.specs.Machine.{Word, opening, kind, Field, deadline, runs, gaps, word, name, line, field, fault, ender, spell, many, add, close, digit, step}
 use Rattle.sheet_form.specs.Machine as machine
 use Rattle.sheet_form.specs.Sets.{padded, listOf, kindOf, taskOf, setOf}
-use Rattle.sheet_form.proofs.Tests.{and-left, map-snoc}
+use Rattle.arena.proofs.Tests.{and-left}
 use Rattle.sheet_form.proofs.Shown.{Ok}
 use Rattle.sheet_fields.specs.declared.state.State.{State}
 use Rattle.sheet_fields.specs.State.{setWord, hardWord, softWord, inName, atLine, inDeadline, inRuns, inGaps, atFault, blankOf}
@@ -54,7 +54,7 @@ add-set s l h =
     let e : length (map taskOf (s .lines)) ≡ length (s .lines) = length-map (s .lines) taskOf in
     let c : length (s .lines) + 1 ≡ length (s .lines ++ (l ∷ [])) = omega (arith, length-append (s .lines) (l ∷ [])) in
     let t : set (padded 7 noTask (map taskOf (s .lines))) (length (s .lines)) (taskOf l) ≡ padded 7 noTask (map taskOf (s .lines ++ (l ∷ [])))
-    = ap (λ k. set (padded 7 noTask (map taskOf (s .lines))) k (taskOf l)) (sym e) ∙ padded-set 7 noTask (map taskOf (s .lines)) (taskOf l) (omega arith) ∙ ap (padded 7 noTask) (sym (map-snoc taskOf (s .lines) l)) in
+    = ap (λ k. set (padded 7 noTask (map taskOf (s .lines))) k (taskOf l)) (sym e) ∙ padded-set 7 noTask (map taskOf (s .lines)) (taskOf l) (omega arith) ∙ ap (padded 7 noTask) (sym (map-append taskOf (s .lines) (l ∷ []))) in
     λ i. record { name = padded 16 0 (s .name); count = c i; tasks = t i }
 
 record Packs (x : State) (p : machine.State) : Type 0 where

@@ -15,14 +15,17 @@ use Rattle.sheet_fields.specs.Fields.{fieldOf}
 abbrev pub wordAt : ℕ → List ℕ
 wordAt m = cond (eqb m setWord) setText (kindText (eqb m hardWord))
 
--- the word's next byte, and what follows its last
+-- what follows a word's last byte: the name, or the deadline of a task of that kind
+abbrev pub wordEnd : State → State
+wordEnd s =
+    cond (eqb (s .mode) setWord) (moved s inName 0)
+    (record { mode = inDeadline; at = 0; last = s .last; bits = s .bits; kind = cond (eqb (s .mode) hardWord) 1 (s .kind); deadline = s .deadline; runs = s .runs; set = s .set })
+
+-- the word's next byte
 unfoldable pub wordOf : State → ℕ → State
 wordOf s b =
     cond (ltb (s .at) (length (wordAt (s .mode))) && eqb b (getD (wordAt (s .mode)) (s .at) 0))
-    (cond (ltb (s .at + 1) (length (wordAt (s .mode)))) (moved s (s .mode) (s .at + 1))
-    (cond (eqb (s .mode) setWord)
-    (moved s inName 0)
-    (record { mode = inDeadline; at = 0; last = s .last; bits = s .bits; kind = cond (eqb (s .mode) hardWord) 1 (s .kind); deadline = s .deadline; runs = s .runs; set = s .set })))
+    (cond (ltb (s .at + 1) (length (wordAt (s .mode)))) (moved s (s .mode) (s .at + 1)) (wordEnd s))
     (blankOf atFault)
 
 -- a set with one byte of its name set

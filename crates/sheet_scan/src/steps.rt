@@ -36,7 +36,7 @@ fn word_length(mode: u8) -> u8
     5
 }
 
-// One byte in a fixed word.
+// One byte in a fixed word. No state that is reached stands past its word's end: the first test only lets the contract hold for every state.
 fn in_word(s: State, b: u8) -> State
     ensures { λ r. ⌜ r ≡ wordOf s b ⌝ }
 {
@@ -115,8 +115,8 @@ fn at_line(s: State, b: u8) -> State
     state::blank(state::FAULT)
 }
 
-// One byte.
-pub fn step(s: State, b: u8) -> State
+// One byte. A pass stops at a fault, so the last answer only lets the contract hold for every state.
+pub(crate) fn step(s: State, b: u8) -> State
     ensures { λ r. ⌜ r ≡ stepOf s b ⌝ }
 {
     if s.mode < state::NAME {

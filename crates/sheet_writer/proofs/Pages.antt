@@ -1,23 +1,24 @@
 -- Texts put on a page one after the other. Assumes nothing.
 use mathlib.Core.Path.{_≡_, refl, sym, ap, ap₂, _∙_, subst}
 use mathlib.Core.Bool.{true, false, _&&_, cond}
-use mathlib.Core.List.{List, [], _∷_, _++_, append-nil, append-assoc, map}
+use mathlib.Core.List.{List, [], _∷_, _++_, append-nil, map, map-append}
 use Prim.Native.Nat.{ℕ, zero, suc, _+_, _-_, _*_, _/_, _%_, _^_, _≤_, _<_}
 use native.Mathlib.Nat.{mod-lt, zero-lt-suc}
 use native.Mathlib.Numerals.{add-one, one-add}
 use native.Mathlib.Omega.{arith}
 use lib.Dec.{eqb}
 use lib.ListN.{length, take, drop, set, getD, length-append, length-take}
-use lib.Seq.{sets, sets-eq, length-sets, take-suc, take-at, take-take, getD-take}
+use lib.Seq.{sets, sets-eq, length-sets, take-suc, take-at, take-take}
 use borrow.Author.Tests.{lt-ltb}
 use Rattle.tasks.specs.declared.sets.Task.{Task}
 use Rattle.tasks.specs.declared.sets.Set.{Set}
 use Rattle.tasks.specs.Lists.{width, values, valuesOf, here, listed}
-use Rattle.tasks.specs.Sets.{noTask, taskAt}
+use Rattle.tasks.specs.Sets.{noTask}
+use Rattle.tasks.proofs.Valid.{ValidTask, Valid}
 use Rattle.sheet_form.specs.Form.{each, Each, decimal, withComma, valuesText, kindText, lineText}
 use Rattle.sheet_form.specs.Sets.{lastApart, lineOf}
-use Rattle.sheet_form.specs.Valid.{TaskOk, Valid}
-use Rattle.sheet_form.proofs.Tests.{each-snoc, map-snoc, Each-take}
+use Rattle.sheet_form.proofs.Tests.{each-append, each-snoc, Each-take}
+use Rattle.sheet_form.proofs.Valid.{counted, tasks-ok}
 use Rattle.sheet_form.proofs.Lengths.{decimal-length, kind-length, values-snoc, list-length, lines-length}
 use Rattle.sheet_writer.specs.Page.{Puts, valueText}
 
@@ -65,10 +66,6 @@ value-here (suc zero) n m h k e =
     append-nil (withComma (1 + n)) ∙ ap withComma (one-add n) ∙ sym (ap₂ (λ c x. cond (c && eqb x 1) (withComma (suc n)) []) (lt-ltb n width k) e)
 value-here (suc (suc b)) n m h k e = let z : ⊥ = omega arith in absurd z
 
-each-append : {A : Type 0} (f : A → List ℕ) (xs ys : List A) → each f (xs ++ ys) ≡ each f xs ++ each f ys
-each-append f [] ys = refl
-each-append f (x ∷ xs) ys = ap (λ l. f x ++ l) (each-append f xs ys) ∙ sym (append-assoc (f x) (each f xs) (each f ys))
-
 pub value-more : (m v : ℕ) → 1 ≤ v → v ≤ width → each withComma (values (v - 1) 1 m) ++ valueText m v ≡ each withComma (values (v + 1 - 1) 1 m)
 value-more m zero h k = let z : ⊥ = omega arith in absurd z
 value-more m (suc n) h k =
@@ -82,26 +79,18 @@ value-more m (suc n) h k =
 -- the lines of tasks, one more
 pub line-more : (ts : List Task) (i : ℕ) → i < length ts
     → each lineText (map lineOf (take i ts)) ++ lineText (lineOf (getD ts i noTask)) ≡ each lineText (map lineOf (take (i + 1) ts))
-line-more ts i h = sym (rw (add-one, take-suc ts i noTask h, map-snoc, each-snoc) refl)
+line-more ts i h = sym (rw (add-one, take-suc ts i noTask h, map-append, each-snoc) refl)
 
-pub parts-length : (τ : Task) → TaskOk τ
+pub parts-length : (τ : Task) → ValidTask τ
     → (length (kindText (eqb (τ .kind) 1)) ≡ 5) × (length (decimal (τ .deadline)) ≤ 2) × (length (valuesText (lastApart (valuesOf (τ .runs)))) ≤ 47) × (length (valuesText (lastApart (valuesOf (τ .gaps)))) ≤ 47)
 parts-length τ h = (kind-length (eqb (τ .kind) 1), decimal-length (τ .deadline), list-length (τ .runs) (h .runs), list-length (τ .gaps) (h .gaps))
-
-Each-at : {A : Type 0} (P : A → Type 0) (xs : List A) (i : ℕ) (d : A) → Each P xs → i < length xs → P (getD xs i d)
-Each-at P [] i d h l = let z : ⊥ = omega arith in absurd z
-Each-at P (x ∷ xs) zero d h l = h .0
-Each-at P (x ∷ xs) (suc i) d h l = Each-at P xs i d (h .1) (omega arith)
 
 -- a valid set's task i + 1, and the lines before it
 module _ (s : Set) (v : Valid s) (i : ℕ) (h : i < s .count) where
   pub inside : i < length (s .tasks)
-  inside = omega (arith, v .count, length-take (s .count) (s .tasks))
-
-  pub task-in : TaskOk (taskAt s i)
-  task-in = subst TaskOk (getD-take (s .count) (s .tasks) i noTask h) (Each-at TaskOk (take (s .count) (s .tasks)) i noTask (v .tasks) (omega (arith, v .count)))
+  inside = omega (arith, counted s v)
 
   pub lines-before : length (each lineText (map lineOf (take i (s .tasks)))) ≤ 106 * i
   lines-before =
       let e : take i (take (s .count) (s .tasks)) ≡ take i (s .tasks) = take-take i (s .count) (s .tasks) (omega arith) in
-      omega (arith, lines-length (take i (s .tasks)) (subst (Each TaskOk) e (Each-take TaskOk i (take (s .count) (s .tasks)) (v .tasks))), length-take i (s .tasks), inside)
+      omega (arith, lines-length (take i (s .tasks)) (subst (Each ValidTask) e (Each-take ValidTask i (take (s .count) (s .tasks)) (tasks-ok s v))), length-take i (s .tasks), inside)

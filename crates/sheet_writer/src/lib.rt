@@ -1,6 +1,7 @@
 // The writer of sheets: the one sheet that a set has, into a lent buffer.
 mod page;
 
+use sheet_form::LONGEST;
 use tasks::refusals;
 use tasks::refusals::Refusal;
 use tasks::sets;
@@ -10,8 +11,8 @@ ghost use mathlib.Core.Path.{_≡_};
 ghost use mathlib.Core.List.{_++_};
 ghost use Prim.Native.Nat.{_≤_};
 ghost use lib.ListN.{length, take, drop};
+ghost use Rattle.tasks.specs.Sets.{Passed};
 ghost use Rattle.sheet_form.specs.Sets.{textOf};
-ghost use Rattle.sheet_form.specs.Valid.{Valid};
 ghost use Rattle.sheet_writer.specs.Writing.{leaving, placed, writeOf};
 
 // What writing a sheet answers: its length, or the refusal.
@@ -34,10 +35,10 @@ fn copy(buf: &mut [u8], page: &[u8], n: usize)
 
 // The sheet of a set that passes the test. It is written on a page first, so that its length is known before a byte of the buffer changes.
 fn place(set: Set, buf: &mut [u8]) -> Wrote
-    requires { ⌜ Valid set ⌝ }
+    requires { ⌜ Passed set ⌝ }
     ensures { λ r. ⌜ leaving r (now (buf .exit)) ≡ placed (textOf set) (now (buf .entry)) ⌝ }
 {
-    let mut page = [0u8; 1024];
+    let mut page = [0u8; LONGEST];
     let n = page::put_sheet(&mut page, set);
     if buf.len() < n {
         return Wrote::Refused(Refusal {

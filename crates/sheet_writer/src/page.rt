@@ -1,4 +1,5 @@
-// A set's sheet on a page of 1,024 bytes.
+// A set's sheet on a page that has room for every sheet.
+use sheet_form::LONGEST;
 use tasks::lists;
 use tasks::sets;
 use tasks::sets::Set;
@@ -8,15 +9,15 @@ ghost use Prim.Native.Nat.{_+_, _≤_, _<_};
 ghost use lib.Dec.{eqb};
 ghost use lib.ListN.{length, take};
 ghost use Rattle.tasks.specs.Lists.{valuesOf, lengthOf};
-ghost use Rattle.tasks.specs.Sets.{characters};
-ghost use Rattle.sheet_form.specs.Form.{decimal, valuesText, kindText, lineText};
+ghost use Rattle.tasks.specs.Sets.{characters, Passed};
+ghost use Rattle.tasks.proofs.Valid.{ValidTask};
+ghost use Rattle.sheet_form.specs.Form.{decimal, valuesText, kindText, lineText, longest};
 ghost use Rattle.sheet_form.specs.Sets.{lastApart, lineOf, textOf};
-ghost use Rattle.sheet_form.specs.Valid.{TaskOk, Valid};
 ghost use Rattle.sheet_writer.specs.Page.{Puts, valueText};
 
 // One byte.
-fn put(page: &mut [u8; 1024], at: usize, b: u8) -> usize
-    requires { ⌜ at < 1024 ⌝ }
+fn put(page: &mut [u8; LONGEST], at: usize, b: u8) -> usize
+    requires { ⌜ at < longest ⌝ }
     ensures { λ r. ⌜ Puts (now (page .entry)) (now (page .exit)) at r (b ∷ []) ⌝ }
 {
     page[at] = b;
@@ -24,8 +25,8 @@ fn put(page: &mut [u8; 1024], at: usize, b: u8) -> usize
 }
 
 // A fixed word.
-fn put_word(page: &mut [u8; 1024], at: usize, w: &[u8]) -> usize
-    requires { ⌜ at + length (now w) ≤ 1024 ⌝ }
+fn put_word(page: &mut [u8; LONGEST], at: usize, w: &[u8]) -> usize
+    requires { ⌜ at + length (now w) ≤ longest ⌝ }
     ensures { λ r. ⌜ Puts (now (page .entry)) (now (page .exit)) at r (now (w .entry)) ⌝ }
 {
     let mut j = at;
@@ -38,8 +39,8 @@ fn put_word(page: &mut [u8; 1024], at: usize, w: &[u8]) -> usize
 }
 
 // A number below 100.
-fn put_number(page: &mut [u8; 1024], at: usize, v: u8) -> usize
-    requires { ⌜ (at + 2 ≤ 1024) × (v < 100) ⌝ }
+fn put_number(page: &mut [u8; LONGEST], at: usize, v: u8) -> usize
+    requires { ⌜ (at + 2 ≤ longest) × (v < 100) ⌝ }
     ensures { λ r. ⌜ Puts (now (page .entry)) (now (page .exit)) at r (decimal v) ⌝ }
 {
     if v < 10 {
@@ -50,8 +51,8 @@ fn put_number(page: &mut [u8; 1024], at: usize, v: u8) -> usize
 }
 
 // A value with its comma, where the list has it.
-fn put_value(page: &mut [u8; 1024], at: usize, list: u16, v: u8) -> usize
-    requires { ⌜ (at + 3 ≤ 1024) × (v < 100) ⌝ }
+fn put_value(page: &mut [u8; LONGEST], at: usize, list: u16, v: u8) -> usize
+    requires { ⌜ (at + 3 ≤ longest) × (v < 100) ⌝ }
     ensures { λ r. ⌜ Puts (now (page .entry)) (now (page .exit)) at r (valueText list v) ⌝ }
 {
     if !lists::has(list, v as u32) {
@@ -62,8 +63,8 @@ fn put_value(page: &mut [u8; 1024], at: usize, list: u16, v: u8) -> usize
 }
 
 // A list: the values below the longest with their commas, and the longest.
-fn put_list(page: &mut [u8; 1024], at: usize, list: u16) -> usize
-    requires { ⌜ (at + 48 ≤ 1024) × (0 < lengthOf list) ⌝ }
+fn put_list(page: &mut [u8; LONGEST], at: usize, list: u16) -> usize
+    requires { ⌜ (at + 48 ≤ longest) × (0 < lengthOf list) ⌝ }
     ensures { λ r. ⌜ Puts (now (page .entry)) (now (page .exit)) at r (valuesText (lastApart (valuesOf list))) ⌝ }
 {
     let top = lists::longest(list) as u8;
@@ -77,8 +78,8 @@ fn put_list(page: &mut [u8; 1024], at: usize, list: u16) -> usize
 }
 
 // `hard ` or `soft `.
-fn put_kind(page: &mut [u8; 1024], at: usize, kind: u8) -> usize
-    requires { ⌜ at + 5 ≤ 1024 ⌝ }
+fn put_kind(page: &mut [u8; LONGEST], at: usize, kind: u8) -> usize
+    requires { ⌜ at + 5 ≤ longest ⌝ }
     ensures { λ r. ⌜ Puts (now (page .entry)) (now (page .exit)) at r (kindText (eqb kind 1)) ⌝ }
 {
     if kind == 1 {
@@ -88,8 +89,8 @@ fn put_kind(page: &mut [u8; 1024], at: usize, kind: u8) -> usize
 }
 
 // A task's line.
-fn put_line(page: &mut [u8; 1024], at: usize, t: Task) -> usize
-    requires { ⌜ (at + 106 ≤ 1024) × TaskOk t ⌝ }
+fn put_line(page: &mut [u8; LONGEST], at: usize, t: Task) -> usize
+    requires { ⌜ (at + 106 ≤ longest) × ValidTask t ⌝ }
     ensures { λ r. ⌜ Puts (now (page .entry)) (now (page .exit)) at r (lineText (lineOf t)) ⌝ }
 {
     let a = put_kind(page, at, t.kind);
@@ -102,8 +103,8 @@ fn put_line(page: &mut [u8; 1024], at: usize, t: Task) -> usize
 }
 
 // The name's characters.
-fn put_name(page: &mut [u8; 1024], at: usize, name: [u8; 16]) -> usize
-    requires { ⌜ at + 16 ≤ 1024 ⌝ }
+fn put_name(page: &mut [u8; LONGEST], at: usize, name: [u8; 16]) -> usize
+    requires { ⌜ at + 16 ≤ longest ⌝ }
     ensures { λ r. ⌜ Puts (now (page .entry)) (now (page .exit)) at r (take (characters name) name) ⌝ }
 {
     let n = sets::name_length(name);
@@ -117,8 +118,8 @@ fn put_name(page: &mut [u8; 1024], at: usize, name: [u8; 16]) -> usize
 }
 
 // The whole sheet of a set, from the page's first byte on.
-pub fn put_sheet(page: &mut [u8; 1024], set: Set) -> usize
-    requires { ⌜ Valid set ⌝ }
+pub(crate) fn put_sheet(page: &mut [u8; LONGEST], set: Set) -> usize
+    requires { ⌜ Passed set ⌝ }
     ensures { λ r. ⌜ Puts (now (page .entry)) (now (page .exit)) 0 r (textOf set) ⌝ }
 {
     let a = put_word(page, 0, b"set ");

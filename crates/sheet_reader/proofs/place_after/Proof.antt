@@ -2,7 +2,7 @@
 use mathlib.Core.Path.{ap}
 use native.Mathlib.Omega.{arith}
 use lib.ListN.{drop, length-drop}
-use Rattle.sheet_reader.proofs.Readings.{scan-within, reach-long, reach-scan}
+use Rattle.sheet_reader.proofs.Passes.{scan-within, reach-long, reach-scan}
 use Rattle.sheet_scan.specs.declared.Scanned.{Scanned}
 use borrow.Author.Needs.{needs}
 use Rattle.sheet_reader.proofs.place_after.Statement.{statement}

@@ -1,9 +1,7 @@
 -- The set's own refusal, or its sheet.
-use mathlib.Core.Path.{_≡_, sym, _∙_}
-use lib.ListN.{length, length-map}
+use mathlib.Core.Path.{sym, _∙_}
 use borrow.Author.Needs.{needs}
-use Rattle.tasks.proofs.Valid as Rules
-use Rattle.sheet_form.proofs.Valid.{valid}
+use Rattle.tasks.proofs.Valid.{passed}
 use Rattle.sheet_writer.proofs.Placed.{write-tested}
 use Rattle.sheet_writer.proofs.write.Statement.{statement}
 use Rattle.sheet_writer.proofs.write.Tie as tie
@@ -18,11 +16,7 @@ place-requires : tie.Need-place-requires
 place-requires c κs =
     let c3 = c .before .before .before in
     let c5 = c3 .before .before in
-    let s = c5 .args .set in
-    let a : length (s .name) ≡ 16 = search needs in
-    let g = c5 .good .0 .1 .1 .1 .1 .0 .1 .0 .1 in
-    let b : length (s .tasks) ≡ 7 = sym (length-map (s .tasks) _) ∙ g in
-    valid s a b (Rules.valid s _ (sym (c3 .test .ensures) ∙ c .before .enum-told .given .1) .0)
+    passed (c5 .args .set) _ (sym (c3 .test .ensures) ∙ c .before .enum-told .given .1)
 
 enum-known-f : tie.Need-enum-known-f
 enum-known-f c = search needs

@@ -1,14 +1,22 @@
 -- The byte of the mode's word.
 use borrow.Author.Tests.{eq-eqb, ne-eqb}
-use mathlib.Core.Path.{sym, ap, subst, _∙_}
+use mathlib.Core.Path.{_≡_, sym, ap, subst, _∙_}
 use Prim.Native.Nat.{_<_}
 use lib.Dec.{eqb}
 use lib.ListN.{length, getD}
 use Rattle.sheet_form.specs.Form.{kindText}
 use Rattle.sheet_form.proofs.Lengths.{kind-length}
+use Rattle.sheet_scan.specs.Steps.{wordAt}
 use Rattle.sheet_scan.proofs.StepLaws.{wordAt-set, wordAt-kind}
 use Rattle.sheet_scan.proofs.steps.letter.Statement.{statement}
 use Rattle.sheet_scan.proofs.steps.letter.Tie as tie
+
+-- past the first test the word is a kind's
+past-set : (c : tie.Else1) → wordAt (c .before .args .mode) ≡ kindText (eqb (c .before .args .mode) 1)
+past-set c = wordAt-kind (c .before .args .mode) (c .if1 .left)
+
+inside : (c : tie.Else1) → c .before .args .at < 5
+inside c = subst (λ n. c .before .args .at < n) (ap length (past-set c) ∙ kind-length (eqb (c .before .args .mode) 1)) (c .before .pre)
 
 element-copy-out-result : tie.Need-element-copy-out-result
 element-copy-out-result c = subst (λ l. c .before .before .args .at < length l) (wordAt-set (c .before .before .args .mode) (c .before .if1 .taken)) (c .before .before .pre)
@@ -19,26 +27,20 @@ returns c =
     sym (ap (λ l. getD l (c3 .args .at) 0) (wordAt-set (c3 .args .mode) (c .before .before .if1 .taken)))
 
 element-copy-out-result-2 : tie.Need-element-copy-out-result-2
-element-copy-out-result-2 c =
-    let c3 = c .before .before .before in
-    subst (λ n. c3 .args .at < n) (ap length (wordAt-kind (c3 .args .mode) (c .before .before .if1 .left)) ∙ kind-length (eqb (c3 .args .mode) 1)) (c3 .pre)
+element-copy-out-result-2 c = inside (c .before .before)
 
 returns-2 : tie.Need-returns-2
 returns-2 c =
-    let c3 = c .before .before .before in
-    let c4 = c3 .before in
-    sym (ap (λ l. getD l (c4 .args .at) 0) (wordAt-kind (c4 .args .mode) (c3 .if1 .left) ∙ ap kindText (eq-eqb (c4 .args .mode) 1 (c .before .before .if2 .taken))))
+    let e = c .before .before .before in
+    sym (ap (λ l. getD l (e .before .args .at) 0) (past-set e ∙ ap kindText (eq-eqb (e .before .args .mode) 1 (c .before .before .if2 .taken))))
 
 element-copy-out-result-3 : tie.Need-element-copy-out-result-3
-element-copy-out-result-3 c =
-    let c3 = c .before .before .before in
-    subst (λ n. c3 .args .at < n) (ap length (wordAt-kind (c3 .args .mode) (c .before .before .if1 .left)) ∙ kind-length (eqb (c3 .args .mode) 1)) (c3 .pre)
+element-copy-out-result-3 c = inside (c .before .before)
 
 returns-3 : tie.Need-returns-3
 returns-3 c =
-    let c3 = c .before .before .before in
-    let c4 = c3 .before in
-    sym (ap (λ l. getD l (c4 .args .at) 0) (wordAt-kind (c4 .args .mode) (c3 .if1 .left) ∙ ap kindText (ne-eqb (c4 .args .mode) 1 (c .before .before .if2 .left))))
+    let e = c .before .before .before in
+    sym (ap (λ l. getD l (e .before .args .at) 0) (past-set e ∙ ap kindText (ne-eqb (e .before .args .mode) 1 (c .before .before .if2 .left))))
 
 pub letter-spec : {M : Type 1} → statement M
 letter-spec =

@@ -13,21 +13,21 @@ put-number-requires : tie.Need-put-number-requires
 put-number-requires c κs =
     let c3 = c .before .before .before in
     let p = c3 .pre in
-    omega (arith, p .0, p .1 .deadline .high, parts-length (c3 .args .t) (p .1), c .before .put-kind .ensures .next)
+    omega (arith, p .0, p .1 .deadline .1, parts-length (c3 .args .t) (p .1), c .before .put-kind .ensures .next)
 
 put-requires : tie.Need-put-requires
 put-requires c κs =
     let c3 = c .before .before .before in
     let c5 = c3 .before .before in
     let p = c5 .pre in
-    omega (arith, p .0, p .1 .deadline .high, parts-length (c5 .args .t) (p .1), c .before .put-number .ensures .next, c3 .put-kind .ensures .next)
+    omega (arith, p .0, p .1 .deadline .1, parts-length (c5 .args .t) (p .1), c .before .put-number .ensures .next, c3 .put-kind .ensures .next)
 
 put-list-requires : tie.Need-put-list-requires
 put-list-requires c κs =
     let c3 = c .before .before .before in
     let c5 = c3 .before .before in
     let c7 = c5 .before .before in
-    (let p = c7 .pre in omega (arith, p .0, p .1 .deadline .high, parts-length (c7 .args .t) (p .1), c .before .put .ensures .next, c3 .put-number .ensures .next, c5 .put-kind .ensures .next), c7 .pre .1 .runs)
+    (let p = c7 .pre in omega (arith, p .0, p .1 .deadline .1, parts-length (c7 .args .t) (p .1), c .before .put .ensures .next, c3 .put-number .ensures .next, c5 .put-kind .ensures .next), c7 .pre .1 .runs)
 
 put-requires-2 : tie.Need-put-requires-2
 put-requires-2 c κs =
@@ -36,7 +36,7 @@ put-requires-2 c κs =
     let c7 = c5 .before .before in
     let c9 = c7 .before .before in
     let p = c9 .pre in
-    omega (arith, p .0, p .1 .deadline .high, parts-length (c9 .args .t) (p .1), c .before .put-list .ensures .next, c3 .put .ensures .next, c5 .put-number .ensures .next, c7 .put-kind .ensures .next)
+    omega (arith, p .0, p .1 .deadline .1, parts-length (c9 .args .t) (p .1), c .before .put-list .ensures .next, c3 .put .ensures .next, c5 .put-number .ensures .next, c7 .put-kind .ensures .next)
 
 put-list-requires-2 : tie.Need-put-list-requires-2
 put-list-requires-2 c κs =
@@ -45,7 +45,7 @@ put-list-requires-2 c κs =
     let c7 = c5 .before .before in
     let c9 = c7 .before .before in
     let c11 = c9 .before .before in
-    (let p = c11 .pre in omega (arith, p .0, p .1 .deadline .high, parts-length (c11 .args .t) (p .1), c .before .put2 .ensures .next, c3 .put-list .ensures .next, c5 .put .ensures .next, c7 .put-number .ensures .next, c9 .put-kind .ensures .next), c11 .pre .1 .gaps)
+    (let p = c11 .pre in omega (arith, p .0, p .1 .deadline .1, parts-length (c11 .args .t) (p .1), c .before .put2 .ensures .next, c3 .put-list .ensures .next, c5 .put .ensures .next, c7 .put-number .ensures .next, c9 .put-kind .ensures .next), c11 .pre .1 .gaps)
 
 put-requires-3 : tie.Need-put-requires-3
 put-requires-3 c κs =
@@ -56,7 +56,7 @@ put-requires-3 c κs =
     let c11 = c9 .before .before in
     let c13 = c11 .before .before in
     let p = c13 .pre in
-    omega (arith, p .0, p .1 .deadline .high, parts-length (c13 .args .t) (p .1), c .before .put-list2 .ensures .next, c3 .put2 .ensures .next, c5 .put-list .ensures .next, c7 .put .ensures .next, c9 .put-number .ensures .next, c11 .put-kind .ensures .next)
+    omega (arith, p .0, p .1 .deadline .1, parts-length (c13 .args .t) (p .1), c .before .put-list2 .ensures .next, c3 .put2 .ensures .next, c5 .put-list .ensures .next, c7 .put .ensures .next, c9 .put-number .ensures .next, c11 .put-kind .ensures .next)
 
 returns : tie.Need-returns
 unfolding lineText

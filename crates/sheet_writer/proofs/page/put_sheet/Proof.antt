@@ -3,12 +3,15 @@ use mathlib.Core.Path.{_≡_, ap}
 use mathlib.Core.List.{map}
 use Prim.Native.Nat.{_-_, _≤_, _<_}
 use native.Mathlib.Omega.{arith}
-use lib.ListN.{take, set}
+use lib.ListN.{length, take, set}
 use borrow.Author.Needs.{needs}
+use Rattle.tasks.specs.Sets.{characters}
+use Rattle.tasks.proofs.Valid.{Valid, passed-valid}
 use Rattle.sheet_form.specs.Form.{each, lineText}
 use Rattle.sheet_form.specs.Sets.{lineOf}
+use Rattle.sheet_form.proofs.Valid.{name-ok}
 use Rattle.sheet_writer.specs.Page.{Puts}
-use Rattle.sheet_writer.proofs.Pages.{puts-none, puts-then, puts-as, line-more, inside, task-in, lines-before}
+use Rattle.sheet_writer.proofs.Pages.{puts-none, puts-then, puts-as, line-more, inside, lines-before}
 use Rattle.sheet_writer.proofs.page.put_sheet.Statement.{statement}
 use Rattle.sheet_writer.proofs.page.put_sheet.Tie as tie
 
@@ -17,6 +20,14 @@ Inv-loop page₀ set a b j₀ n i₀ page j i = (i ≤ n) × Puts page₀ page j
 
 abbrev μ-loop : tie.MeasureT-loop
 μ-loop page₀ set a b j₀ n i₀ page j i = n - i
+
+-- what is known of the set at the entry: it is valid, and its name fits
+module _ (b : tie.Start Inv-loop μ-loop) where
+  valid : Valid (b .args .t2)
+  valid = passed-valid (b .args .t2) (b .pre)
+
+  name-fits : length (take (characters (b .args .t2 .name)) (b .args .t2 .name)) ≤ 16
+  name-fits = let l : length (b .args .t2 .name) ≡ 16 = search needs in name-ok (b .args .t2 .name) (valid .name) l .high
 
 slice-aggregate-put-word : tie.Need-slice-aggregate-put-word Inv-loop μ-loop
 slice-aggregate-put-word c = search needs
@@ -31,7 +42,7 @@ put-requires : tie.Need-put-requires Inv-loop μ-loop
 put-requires c κs =
     let c4 = c .before .before .before .before in
     let c7 = c4 .before .before .before in
-    omega (arith, c .before .put-name .ensures .next, c4 .put-word .ensures .next, c7 .pre .name .high)
+    omega (arith, c .before .put-name .ensures .next, c4 .put-word .ensures .next, name-fits c7)
 
 cast-n : tie.Need-cast-n Inv-loop μ-loop
 cast-n c = search needs
@@ -42,16 +53,12 @@ loop-holds c = (omega arith, puts-none _ _)
 mul-t : tie.Need-mul-t Inv-loop μ-loop
 mul-t c =
     let c10 = c .before .before .before .before .before .before .before .before .before .before in
-    let s = c10 .args .t2 in
-    let v = c10 .pre in
-    omega (arith, v .high)
+    omega (arith, valid c10 .count .1)
 
 element-copy-out-t : tie.Need-element-copy-out-t Inv-loop μ-loop
 element-copy-out-t c =
     let c10 = c .before .before .before .before .before .before .before .before .before .before in
-    let s = c10 .args .t2 in
-    let v = c10 .pre in
-    omega (arith, v .high)
+    omega (arith, valid c10 .count .1)
 
 put-line-requires : tie.Need-put-line-requires Inv-loop μ-loop
 put-line-requires c κs =
@@ -61,15 +68,16 @@ put-line-requires c κs =
     let c9 = c6 .before .before .before in
     let c12 = c9 .before .before .before in
     let s = c12 .args .t2 in
-    let v = c12 .pre in
+    let v = valid c12 in
     let l = c3 .loop in
     let k : l .i < s .count = c .before .before .loop-test .taken in
-    (omega (arith, l .inv .1 .next, c4 .put .ensures .next, c6 .put-name .ensures .next, c9 .put-word .ensures .next, v .name .high, lines-before s v (l .i) k, v .high), task-in s v (l .i) k)
+    (omega (arith, l .inv .1 .next, c4 .put .ensures .next, c6 .put-name .ensures .next, c9 .put-word .ensures .next, name-fits c12, lines-before s v (l .i) k, v .count .1), v .tasks (l .i) k)
 
 add-i : tie.Need-add-i Inv-loop μ-loop
 add-i c =
     let c3 = c .before .before .before in
-    omega (arith, c3 .loop-test .taken)
+    let c13 = c3 .before .before .before .before .before .before .before .before .before .before in
+    omega (arith, c3 .loop-test .taken, valid c13 .count .1)
 
 loop-less : tie.Need-loop-less Inv-loop μ-loop
 loop-less c =
@@ -82,7 +90,7 @@ loop-again c =
     let c4 = c3 .before in
     let c13 = c4 .before .before .before .before .before .before .before .before .before in
     let s = c13 .args .t2 in
-    let v = c13 .pre in
+    let v = valid c13 in
     let l = c4 .loop in
     let k : l .i < s .count = c3 .loop-test .taken in
     (omega (arith, c3 .loop-test .taken), puts-as (puts-then (l .inv .1) (c .put-line .ensures)) (line-more (s .tasks) (l .i) (inside s v (l .i) k)))
@@ -93,7 +101,7 @@ returns c =
     let c7 = c4 .before .before .before in
     let c10 = c7 .before .before .before in
     let s = c10 .args .t2 in
-    let v = c10 .pre in
+    let v = valid c10 in
     let l = c .before .loop in
     let e : l .i ≡ s .count = omega (arith, c .loop-test .left) in
     puts-then (puts-then (puts-then (c7 .put-word .ensures) (c4 .put-name .ensures)) (c .before .before .put .ensures)) (puts-as (l .inv .1) (ap (λ n. each lineText (map lineOf (take n (s .tasks)))) e))
