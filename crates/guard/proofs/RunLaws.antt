@@ -2,15 +2,13 @@
 use mathlib.Core.Path.{_≡_, refl, sym, ap, ap₂, subst, _∙_}
 use mathlib.Core.Logic.{⊎-elim}
 use mathlib.Core.Bool.{Bool, true, false, not, _&&_, cond}
-use mathlib.Core.List.{List}
+use mathlib.Core.List.{List, [], _∷_}
 use Prim.Native.Nat.{ℕ, zero, suc, _+_, _-_, _≤_, _<_}
 use native.Mathlib.Omega.{arith}
 use lib.Dec.{T, eqb, leb, ltb, eqb→eq, leb→le, ltb→lt}
-use lib.ListN.{length, getD, set, length-set}
-use lib.Seq.{ext-getD, getD-set-same, getD-set-other}
-use borrow.Author.Count.{below-more, below-none}
+use lib.ListN.{getD}
 use borrow.Author.Tests.{lt-ltb, le-ltb, le-leb, lt-leb, eq-eqb}
-use Rattle.arena.specs.Tests.{allBelow, one}
+use Rattle.arena.specs.Tests.{allBelow, one, first}
 use Rattle.arena.proofs.Tests.{and-left, and-right, and-by, T-true, T-ext, lt-or-le, allBelow-at, allBelow-by}
 use Rattle.tasks.specs.declared.sets.Task.{Task}
 use Rattle.tasks.specs.declared.sets.Set.{Set}
@@ -24,7 +22,12 @@ use Rattle.guard.specs.declared.runs.Counts.{Counts}
 use Rattle.guard.specs.declared.runs.Awaited.{Awaited}
 use Rattle.guard.specs.declared.runs.Awaited.the-variants.{Nothing, Choice}
 use Rattle.guard.specs.declared.runs.Run.{Run}
-use Rattle.guard.specs.Runs.{tickLimit, seven, countsAt, sumHolds, taskFits, placeEmpty, placeFits, legalFor, awaitedFits, fits, Small}
+use Rattle.guard.specs.Runs.{tickLimit, seven, countsAt, sumHolds, taskFits, placeEmpty, placeFits, legalFor, awaitedFits, fits, Small, Smalls}
+
+-- seven values that are equal one by one
+pub all-seven : {A : Type 0} {a b c d e f g a′ b′ c′ d′ e′ f′ g′ : A} → a ≡ a′ → b ≡ b′ → c ≡ c′ → d ≡ d′ → e ≡ e′ → f ≡ f′ → g ≡ g′
+    → _≡_ {A = List A} (a ∷ b ∷ c ∷ d ∷ e ∷ f ∷ g ∷ []) (a′ ∷ b′ ∷ c′ ∷ d′ ∷ e′ ∷ f′ ∷ g′ ∷ [])
+all-seven p q r s t u v = cc
 
 module _ {A : Type 0} (d : A) where
   pub seven-at : (f : ℕ → A) (i : ℕ) → i < 7 → getD (seven f) i d ≡ f i
@@ -37,26 +40,17 @@ module _ {A : Type 0} (d : A) where
   seven-at f (suc (suc (suc (suc (suc (suc zero)))))) h = refl
   seven-at f (suc (suc (suc (suc (suc (suc (suc i))))))) h = let z : ⊥ = omega arith in absurd z
 
--- the places before k have the values of f
-pub record Filled {A : Type 0} (d : A) (f : ℕ → A) (l : List A) (k : ℕ) : Type 0 where
-  pub size : length l ≡ 7
-  pub done : (j : ℕ) → j < k → getD l j d ≡ f j
-
-module _ {A : Type 0} (d : A) (f : ℕ → A) (l : List A) where
-  pub filled-none : length l ≡ 7 → Filled d f l 0
-  filled-none e = record { size = e; done = below-none _ }
-
-  pub filled-more : (k : ℕ) → Filled d f l k → k < 7 → (a : A) → a ≡ f k → Filled d f (set l k a) (k + 1)
-  filled-more k w h a e = record {
-    size = length-set l k a ∙ w .size;
-    done = below-more (λ j. getD (set l k a) j d ≡ f j) k
-        (λ j b. getD-set-other l k j a d (λ q. omega arith) ∙ w .done j b)
-        (getD-set-same l k a d (omega (arith, w .size)) ∙ e);
-  }
-
-  pub filled-all : (k : ℕ) → Filled d f l k → 7 ≤ k → l ≡ seven f
-  filled-all k w h =
-      ext-getD d l (seven f) (w .size) (λ i b. w .done i (omega (arith, w .size)) ∙ sym (seven-at d f i (omega (arith, w .size))))
+  -- the first place that passes is the first number whose value does
+  pub seven-first : (f : ℕ → A) (g : A → Bool) (n : ℕ) → n ≤ 7 → first (λ k. g (getD (seven f) k d)) n 0 ≡ first (λ k. g (f k)) n 0
+  seven-first f g zero h = refl
+  seven-first f g (suc zero) h = refl
+  seven-first f g (suc (suc zero)) h = refl
+  seven-first f g (suc (suc (suc zero))) h = refl
+  seven-first f g (suc (suc (suc (suc zero)))) h = refl
+  seven-first f g (suc (suc (suc (suc (suc zero))))) h = refl
+  seven-first f g (suc (suc (suc (suc (suc (suc zero)))))) h = refl
+  seven-first f g (suc (suc (suc (suc (suc (suc (suc zero))))))) h = refl
+  seven-first f g (suc (suc (suc (suc (suc (suc (suc (suc n)))))))) h = let z : ⊥ = omega arith in absurd z
 
 -- a test of every number below n, one by one
 pub all-fails : (n : ℕ) (f : ℕ → Bool) (k : ℕ) → k < n → f k ≡ false → allBelow n f ≡ false
@@ -193,12 +187,23 @@ empty-small x n t =
       replaced = omega (arith, eqb→eq (n .replaced) 0 (and-right (eqb (n .finished) 0) _ b));
     }
 
-pub small-counts : (s : Set) (r : Run) → Fits s r → (k : ℕ) → k < 7 → Small (countsAt (r .counts) k)
-small-counts s r w k l = ⊎-elim task (λ h. empty-small _ _ (w .rest k h l)) (lt-or-le k (s .count))
+pub small-counts : (s : Set) (r : Run) → Fits s r → Smalls (r .counts)
+small-counts s r w = record {
+  first = at 0 (omega arith);
+  second = at 1 (omega arith);
+  third = at 2 (omega arith);
+  fourth = at 3 (omega arith);
+  fifth = at 4 (omega arith);
+  sixth = at 5 (omega arith);
+  seventh = at 6 (omega arith);
+}
   where
-    task : k < s .count → Small (countsAt (r .counts) k)
-    task h = let p = w .tasks k h in record {
-      arrived = omega (arith, p .few, w .ticks);
-      finished = omega (arith, p .few, p .sum, w .ticks);
-      replaced = omega (arith, p .few, p .sum, w .ticks);
-    }
+    at : (k : ℕ) → k < 7 → Small (countsAt (r .counts) k)
+    at k l = ⊎-elim (task k) (λ h. empty-small _ _ (w .rest k h l)) (lt-or-le k (s .count))
+      where
+        task : (k : ℕ) → k < s .count → Small (countsAt (r .counts) k)
+        task k h = let p = w .tasks k h in record {
+          arrived = omega (arith, p .few, w .ticks);
+          finished = omega (arith, p .few, p .sum, w .ticks);
+          replaced = omega (arith, p .few, p .sum, w .ticks);
+        }

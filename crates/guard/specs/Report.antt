@@ -3,6 +3,7 @@ use mathlib.Core.Bool.{Bool, true, false, not, _&&_, _||_, cond}
 use mathlib.Core.List.{List, [], _∷_, _++_}
 use Prim.Native.Nat.{ℕ, zero, suc, _+_, _/_, _%_, _^_}
 use lib.Dec.{eqb, ltb}
+use lib.ListN.{getD}
 use Rattle.arena.specs.Tests.{first, one}
 use Rattle.tasks.specs.declared.sets.Set.{Set}
 use Rattle.tasks.specs.declared.sets.Tested.{Tested}
@@ -41,6 +42,10 @@ seenTo o (suc k) = seenTo o k ++ (flagsAt o k ∷ [])
 -- what the tick comes to for task k + 1
 unfoldable pub tickAt : Set → List TaskState → Outcome → ℕ → Ticked
 tickAt s xs o k = tickOf (taskAt s k) (eqb (o .choice) (suc k)) (stateAt xs k) (flagsAt o k)
+
+-- a place of what the ticks come to
+abbrev pub ticked : List Ticked → ℕ → Ticked
+ticked ts k = getD ts k Impossible
 
 -- a tick that is not possible, or a miss
 abbrev pub isSuch : Bool → Ticked → Bool

@@ -88,6 +88,15 @@ pub record Small (n : Counts) : Type 0 where
   pub finished : n .finished < 4294967295
   pub replaced : n .replaced < 4294967295
 
+pub record Smalls (ns : List Counts) : Type 0 where
+  pub first : Small (countsAt ns 0)
+  pub second : Small (countsAt ns 1)
+  pub third : Small (countsAt ns 2)
+  pub fourth : Small (countsAt ns 3)
+  pub fifth : Small (countsAt ns 4)
+  pub sixth : Small (countsAt ns 5)
+  pub seventh : Small (countsAt ns 6)
+
 -- a place beyond the tasks is zero with no job
 unfoldable pub placeEmpty : TaskState → Counts → Bool
 placeEmpty x n =

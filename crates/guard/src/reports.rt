@@ -13,16 +13,18 @@ use tasks::refusals;
 use tasks::refusals::Refusal;
 use tasks::sets;
 use tasks::sets::Set;
+use tasks::sets::Task;
 use tasks::sets::Tested;
 ghost use mathlib.Core.Path.{_≡_};
-ghost use mathlib.Core.Bool.{_&&_};
-ghost use Prim.Native.Nat.{ℕ, _+_, _<_};
-ghost use lib.Dec.{T};
-ghost use Rattle.arena.specs.Tests.{one};
+ghost use mathlib.Core.Bool.{_&&_, cond};
+ghost use Prim.Native.Nat.{ℕ, suc, _+_, _≤_, _<_};
+ghost use lib.Dec.{T, eqb, ltb};
+ghost use Rattle.arena.specs.Tests.{one, first};
 ghost use Rattle.tasks.specs.Sets.{Passed};
-ghost use Rattle.game.specs.Ticks.{flagged};
-ghost use Rattle.guard.specs.Runs.{seven, countsAt, Small, fits};
-ghost use Rattle.guard.specs.Report.{nextReading, tickAt, isSuch, firstSuch, strays, impossible, stateAfter, countsAfter, stateThen, countsThen, runAfter, reportRefused, reportNamed, reportAwaited, reportOf};
+ghost use Rattle.game.specs.States.{stateAt};
+ghost use Rattle.game.specs.Ticks.{flagged, tickOf};
+ghost use Rattle.guard.specs.Runs.{seven, countsAt, Small, Smalls, fits};
+ghost use Rattle.guard.specs.Report.{nextReading, flagsAt, tickAt, ticked, isSuch, strays, stateAfter, countsAfter, runAfter, reportRefused, reportNamed, reportAwaited, reportOf};
 
 // What a report says of the awaited choice: whether the run job finished, and which jobs arrived.
 pub struct Outcome {
@@ -65,16 +67,29 @@ fn next_reading(reading: u32) -> u32
 }
 
 // What the tick comes to for task k + 1.
-fn tick_at(s: Set, xs: [TaskState; 7], o: Outcome, k: usize) -> Ticked
+fn tick_at(t: Task, x: TaskState, o: Outcome, k: usize) -> Ticked
     requires { ⌜ k < 7 ⌝ }
-    ensures { λ r. ⌜ r ≡ tickAt s xs o k ⌝ }
+    ensures { λ r. ⌜ r ≡ tickOf t (eqb (o .choice) (suc k)) x (flagsAt o k) ⌝ }
 {
-    let t = s.tasks[k];
-    let x = xs[k];
     let run = o.choice as usize == k + 1;
     let finishes = both(run, o.finished);
     let arrives = entries::allows(o.arrivals, k);
     ticks::tick(t, run, x, finishes, arrives)
+}
+
+// For each place, worked out once.
+fn tick_all(s: Set, xs: [TaskState; 7], o: Outcome) -> [Ticked; 7]
+    ensures { λ r. ⌜ r ≡ seven (tickAt s xs o) ⌝ }
+{
+    [
+        tick_at(s.tasks[0], xs[0], o, 0),
+        tick_at(s.tasks[1], xs[1], o, 1),
+        tick_at(s.tasks[2], xs[2], o, 2),
+        tick_at(s.tasks[3], xs[3], o, 3),
+        tick_at(s.tasks[4], xs[4], o, 4),
+        tick_at(s.tasks[5], xs[5], o, 5),
+        tick_at(s.tasks[6], xs[6], o, 6),
+    ]
 }
 
 // Whether a tick is not possible, or a miss.
@@ -88,14 +103,14 @@ fn is_such(missed: bool, t: Ticked) -> bool
     }
 }
 
-// The lowest task, from 0, whose tick is not possible, or a miss.
-fn first_such(s: Set, xs: [TaskState; 7], o: Outcome, missed: bool) -> usize
-    requires { ⌜ Passed s ⌝ }
-    ensures { λ r. ⌜ r ≡ firstSuch s xs o missed ⌝ }
+// The lowest of n tasks, from 0, whose tick is not possible, or a miss.
+fn first_such(ts: [Ticked; 7], n: usize, missed: bool) -> usize
+    requires { ⌜ n ≤ 7 ⌝ }
+    ensures { λ r. ⌜ r ≡ first (λ k. isSuch missed (ticked ts k)) n 0 ⌝ }
 {
     let mut k = 0;
-    while k < s.count as usize {
-        let t = tick_at(s, xs, o, k);
+    while k < n {
+        let t = ts[k];
         if is_such(missed, t) {
             return k;
         }
@@ -115,17 +130,6 @@ fn is_stray(s: Set, o: Outcome) -> bool
     (o.arrivals >> s.count) != 0
 }
 
-// Whether an outcome is not possible.
-fn is_impossible(s: Set, xs: [TaskState; 7], o: Outcome) -> bool
-    requires { ⌜ Passed s ⌝ }
-    ensures { λ r. ⌜ r ≡ impossible s xs o ⌝ }
-{
-    if is_stray(s, o) {
-        return true;
-    }
-    first_such(s, xs, o, false) < s.count as usize
-}
-
 // The state of a task after its tick.
 fn state_after(x: TaskState, t: Ticked) -> TaskState
     ensures { λ r. ⌜ r ≡ stateAfter x t ⌝ }
@@ -137,32 +141,28 @@ fn state_after(x: TaskState, t: Ticked) -> TaskState
     }
 }
 
-// The state in place k after an outcome.
-fn state_then(s: Set, xs: [TaskState; 7], o: Outcome, k: usize) -> TaskState
-    requires { ⌜ k < 7 ⌝ }
-    ensures { λ r. ⌜ r ≡ stateThen s xs o k ⌝ }
+// The state in place k after its tick, of n tasks.
+fn state_then(n: usize, x: TaskState, t: Ticked, k: usize) -> TaskState
+    ensures { λ r. ⌜ r ≡ cond (ltb k n) (stateAfter x t) x ⌝ }
 {
-    let x = xs[k];
-    if k < s.count as usize {
-        let t = tick_at(s, xs, o, k);
+    if k < n {
         return state_after(x, t);
     }
     x
 }
 
-fn move_states(s: Set, xs: [TaskState; 7], o: Outcome) -> [TaskState; 7]
-    ensures { λ r. ⌜ r ≡ seven (stateThen s xs o) ⌝ }
+fn move_states(n: usize, xs: [TaskState; 7], ts: [Ticked; 7]) -> [TaskState; 7]
+    ensures { λ r. ⌜ r ≡ seven (λ k. cond (ltb k n) (stateAfter (stateAt xs k) (ticked ts k)) (stateAt xs k)) ⌝ }
 {
-    let mut ys = [TaskState {
-        age: 0,
-        job: Job::Empty,
-    }; 7];
-    let mut k = 0;
-    while k < 7 {
-        ys[k] = state_then(s, xs, o, k);
-        k += 1;
-    }
-    ys
+    [
+        state_then(n, xs[0], ts[0], 0),
+        state_then(n, xs[1], ts[1], 1),
+        state_then(n, xs[2], ts[2], 2),
+        state_then(n, xs[3], ts[3], 3),
+        state_then(n, xs[4], ts[4], 4),
+        state_then(n, xs[5], ts[5], 5),
+        state_then(n, xs[6], ts[6], 6),
+    ]
 }
 
 // One more, if so.
@@ -188,47 +188,44 @@ fn counts_after(x: TaskState, n: Counts, finishes: bool, arrives: bool) -> Count
     }
 }
 
-// The counts in place k after an outcome.
-fn counts_then(s: Set, xs: [TaskState; 7], ns: [Counts; 7], o: Outcome, k: usize) -> Counts
-    requires { ⌜ (k < 7) × Small (countsAt ns k) ⌝ }
-    ensures { λ r. ⌜ r ≡ countsThen s xs ns o k ⌝ }
+// The counts in place k after an outcome, of n tasks.
+fn counts_then(n: usize, x: TaskState, m: Counts, o: Outcome, k: usize) -> Counts
+    requires { ⌜ (k < 7) × Small m ⌝ }
+    ensures { λ r. ⌜ r ≡ cond (ltb k n) (countsAfter x m (flagsAt o k)) m ⌝ }
 {
-    let x = xs[k];
-    let n = ns[k];
-    if k < s.count as usize {
+    if k < n {
         let finishes = both(o.choice as usize == k + 1, o.finished);
         let arrives = entries::allows(o.arrivals, k);
-        return counts_after(x, n, finishes, arrives);
+        return counts_after(x, m, finishes, arrives);
     }
-    n
+    m
 }
 
-fn move_counts(s: Set, xs: [TaskState; 7], ns: [Counts; 7], o: Outcome) -> [Counts; 7]
-    requires { ⌜ ((k : ℕ) → k < 7 → Small (countsAt ns k)) ⌝ }
-    ensures { λ r. ⌜ r ≡ seven (countsThen s xs ns o) ⌝ }
+fn move_counts(n: usize, xs: [TaskState; 7], ns: [Counts; 7], o: Outcome) -> [Counts; 7]
+    requires { ⌜ Smalls ns ⌝ }
+    ensures { λ r. ⌜ r ≡ seven (λ k. cond (ltb k n) (countsAfter (stateAt xs k) (countsAt ns k) (flagsAt o k)) (countsAt ns k)) ⌝ }
 {
-    let mut ms = [Counts {
-        arrived: 0,
-        finished: 0,
-        replaced: 0,
-    }; 7];
-    let mut k = 0;
-    while k < 7 {
-        ms[k] = counts_then(s, xs, ns, o, k);
-        k += 1;
-    }
-    ms
+    [
+        counts_then(n, xs[0], ns[0], o, 0),
+        counts_then(n, xs[1], ns[1], o, 1),
+        counts_then(n, xs[2], ns[2], o, 2),
+        counts_then(n, xs[3], ns[3], o, 3),
+        counts_then(n, xs[4], ns[4], o, 4),
+        counts_then(n, xs[5], ns[5], o, 5),
+        counts_then(n, xs[6], ns[6], o, 6),
+    ]
 }
 
-// The run after an outcome.
-fn move_run(s: Set, r: Run, o: Outcome) -> Run
-    requires { ⌜ Passed s × T (fits s r) × (r .ticks < 16777216) ⌝ }
+// The run after an outcome with these ticks.
+fn move_run(s: Set, r: Run, o: Outcome, ts: [Ticked; 7]) -> Run
+    requires { ⌜ Passed s × T (fits s r) × (r .ticks < 16777216) × (ts ≡ seven (tickAt s (r .states) o)) ⌝ }
     ensures { λ a. ⌜ a ≡ runAfter s r o ⌝ }
 {
+    let n = s.count as usize;
     let xs = r.states;
     let ns = r.counts;
-    let ys = move_states(s, xs, o);
-    let ms = move_counts(s, xs, ns, o);
+    let ys = move_states(n, xs, ts);
+    let ms = move_counts(n, xs, ns, o);
     Run {
         states: ys,
         counts: ms,
@@ -244,15 +241,20 @@ fn report_named(s: Set, r: Run, o: Outcome) -> Reported
     requires { ⌜ Passed s × T (fits s r) × (r .ticks < 16777216) ⌝ }
     ensures { λ a. ⌜ a ≡ reportNamed s r o ⌝ }
 {
+    let n = s.count as usize;
     let xs = r.states;
-    if is_impossible(s, xs, o) {
+    if is_stray(s, o) {
         return refuse(r, refusals::IMPOSSIBLE_OUTCOME, 0);
     }
-    let missed = first_such(s, xs, o, true);
-    if missed < s.count as usize {
+    let ts = tick_all(s, xs, o);
+    if first_such(ts, n, false) < n {
+        return refuse(r, refusals::IMPOSSIBLE_OUTCOME, 0);
+    }
+    let missed = first_such(ts, n, true);
+    if missed < n {
         return refuse(r, refusals::HARD_MISS, (missed + 1) as u32);
     }
-    let moved = move_run(s, r, o);
+    let moved = move_run(s, r, o, ts);
     Reported {
         answer: Taken::Done,
         run: moved,

@@ -71,16 +71,15 @@ fn fresh_state(n: usize, k: usize) -> TaskState
 fn fresh_states(n: usize) -> [TaskState; 7]
     ensures { λ r. ⌜ r ≡ seven (startState n) ⌝ }
 {
-    let mut xs = [TaskState {
-        age: 0,
-        job: Job::Empty,
-    }; 7];
-    let mut k = 0;
-    while k < 7 {
-        xs[k] = fresh_state(n, k);
-        k += 1;
-    }
-    xs
+    [
+        fresh_state(n, 0),
+        fresh_state(n, 1),
+        fresh_state(n, 2),
+        fresh_state(n, 3),
+        fresh_state(n, 4),
+        fresh_state(n, 5),
+        fresh_state(n, 6),
+    ]
 }
 
 // The counts at the start in place k, for n tasks.
@@ -104,17 +103,15 @@ fn fresh_count(n: usize, k: usize) -> Counts
 fn fresh_counts(n: usize) -> [Counts; 7]
     ensures { λ r. ⌜ r ≡ seven (startCounts n) ⌝ }
 {
-    let mut ns = [Counts {
-        arrived: 0,
-        finished: 0,
-        replaced: 0,
-    }; 7];
-    let mut k = 0;
-    while k < 7 {
-        ns[k] = fresh_count(n, k);
-        k += 1;
-    }
-    ns
+    [
+        fresh_count(n, 0),
+        fresh_count(n, 1),
+        fresh_count(n, 2),
+        fresh_count(n, 3),
+        fresh_count(n, 4),
+        fresh_count(n, 5),
+        fresh_count(n, 6),
+    ]
 }
 
 // The run at the start, for n tasks.

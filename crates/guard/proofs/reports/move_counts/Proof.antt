@@ -1,55 +1,35 @@
--- The places before k.
+-- The counts of each place.
 use borrow.Author.Needs.{needs}
-use mathlib.Core.Path.{refl}
-use Prim.Native.Nat.{_-_, _≤_}
 use native.Mathlib.Omega.{arith}
-use Rattle.guard.specs.Runs.{noCounts}
-use Rattle.guard.specs.Report.{countsThen}
-use Rattle.guard.proofs.RunLaws.{Filled, filled-none, filled-more, filled-all}
+use Rattle.guard.proofs.RunLaws.{all-seven}
 use Rattle.guard.proofs.reports.move_counts.Statement.{statement}
 use Rattle.guard.proofs.reports.move_counts.Tie as tie
 
-abbrev Inv-loop : tie.InvT-loop
-Inv-loop s xs ns o ms₀ k₀ ms k = (k ≤ 7) × Filled noCounts (countsThen s xs ns o) ms k
+-- too far from the entry to be searched for
+sixth : tie.Need-counts-then-requires-6
+sixth c κs = let b = c .before .before .before .before .before .before .before .before in (omega arith, b .before .before .before .before .before .before .before .before .before .pre .sixth)
 
-abbrev μ-loop : tie.MeasureT-loop
-μ-loop s xs ns o ms₀ k₀ ms k = 7 - k
+seventh : tie.Need-counts-then-requires-7
+seventh c κs = let b = c .before .before .before .before .before .before .before .before .before .before in (omega arith, b .before .before .before .before .before .before .before .before .before .before .pre .seventh)
 
-loop-holds : tie.Need-loop-holds Inv-loop μ-loop
-loop-holds c = (omega arith, filled-none _ _ _ refl)
-
-counts-then-requires : tie.Need-counts-then-requires Inv-loop μ-loop
-counts-then-requires c κs = (c .loop-test .taken, c .before .before .pre (c .before .loop .k) (c .loop-test .taken))
-
-mul-ms : tie.Need-mul-ms Inv-loop μ-loop
-mul-ms c = search needs
-
-array-set-from-ms : tie.Need-array-set-from-ms Inv-loop μ-loop
-array-set-from-ms c = search needs
-
-add-k : tie.Need-add-k Inv-loop μ-loop
-add-k c = search needs
-
-loop-less : tie.Need-loop-less Inv-loop μ-loop
-loop-less c = search needs
-
-loop-again : tie.Need-loop-again Inv-loop μ-loop
-loop-again c = (omega arith, filled-more _ _ _ (c .before .before .loop .k) (c .before .before .loop .inv .1) (c .before .loop-test .taken) _ (c .counts-then .ensures))
-
-returns : tie.Need-returns Inv-loop μ-loop
-returns c = filled-all _ _ _ (c .before .loop .k) (c .before .loop .inv .1) (c .loop-test .left)
+returns : tie.Need-returns
+returns c =
+    let f = c .before .before .before in
+    let e = f .before .before .before in
+    let d = e .before .before .before in
+    let b = d .before .before .before in
+    let a = b .before .before .before in
+    all-seven (a .before .before .before .counts-then .ensures) (a .counts-then2 .ensures) (b .counts-then3 .ensures) (d .counts-then4 .ensures) (e .counts-then5 .ensures) (f .counts-then6 .ensures) (c .counts-then7 .ensures)
 
 pub move-counts-spec : {M : Type 1} → statement M
 move-counts-spec =
     tie.close
     (tie.spec
-    Inv-loop
-    μ-loop
-    loop-holds
-    counts-then-requires
-    mul-ms
-    array-set-from-ms
-    add-k
-    loop-less
-    loop-again
+    (λ c. search needs) (λ c. search needs) (λ c κs. search needs)
+    (λ c. search needs) (λ c. search needs) (λ c κs. search needs)
+    (λ c. search needs) (λ c. search needs) (λ c κs. search needs)
+    (λ c. search needs) (λ c. search needs) (λ c κs. search needs)
+    (λ c. search needs) (λ c. search needs) (λ c κs. search needs)
+    (λ c. search needs) (λ c. search needs) sixth
+    (λ c. search needs) (λ c. search needs) seventh
     returns)

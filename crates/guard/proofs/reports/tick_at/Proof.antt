@@ -2,21 +2,8 @@
 use borrow.Author.Needs.{needs}
 use mathlib.Core.Path.{_∙_}
 use native.Mathlib.Numerals.{add-one}
-use Rattle.guard.specs.Report.{tickAt}
 use Rattle.guard.proofs.reports.tick_at.Statement.{statement}
 use Rattle.guard.proofs.reports.tick_at.Tie as tie
-
-mul-t : tie.Need-mul-t
-mul-t c = search needs
-
-element-copy-out-t : tie.Need-element-copy-out-t
-element-copy-out-t c = search needs
-
-mul-x : tie.Need-mul-x
-mul-x c = search needs
-
-array-copy-out-x : tie.Need-array-copy-out-x
-array-copy-out-x c = search needs
 
 cast-run : tie.Need-cast-run
 cast-run c = search needs
@@ -34,20 +21,7 @@ tick-requires : tie.Need-tick-requires
 tick-requires c κs = search needs
 
 returns : tie.Need-returns
-unfolding tickAt
 returns c = c .tick .ensures ∙ simp (c .before .allows .ensures, c .before .before .both .ensures, add-one)
 
 pub tick-at-spec : {M : Type 1} → statement M
-tick-at-spec =
-    tie.close
-    (tie.spec
-    mul-t
-    element-copy-out-t
-    mul-x
-    array-copy-out-x
-    cast-run
-    add-run
-    both-requires
-    allows-requires
-    tick-requires
-    returns)
+tick-at-spec = tie.close (tie.spec cast-run add-run both-requires allows-requires tick-requires returns)
