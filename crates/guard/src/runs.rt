@@ -148,7 +148,7 @@ pub fn start(s: Set, reading: u32) -> Started
 }
 
 // Whether a job is in hand.
-pub fn in_hand(job: Job) -> bool
+pub(crate) fn in_hand(job: Job) -> bool
     ensures { λ r. ⌜ r ≡ inHand job ⌝ }
 {
     match job {
@@ -221,7 +221,7 @@ fn place_fits(s: Set, r: Run, k: usize) -> bool
 }
 
 // Whether a choice is idle or a runnable task.
-pub fn is_legal(s: Set, xs: [TaskState; 7], choice: usize) -> bool
+pub(crate) fn is_legal(s: Set, xs: [TaskState; 7], choice: usize) -> bool
     requires { ⌜ Passed s ⌝ }
     ensures { λ r. ⌜ r ≡ legalFor s xs choice ⌝ }
 {
@@ -257,7 +257,7 @@ fn awaited_fits(s: Set, r: Run, awaited: Awaited) -> bool
 }
 
 // Whether a run fits a set.
-pub fn fits_set(s: Set, r: Run) -> bool
+pub(crate) fn fits_set(s: Set, r: Run) -> bool
     requires { ⌜ Passed s ⌝ }
     ensures { λ b. ⌜ b ≡ fits s r ⌝ }
 {
@@ -279,7 +279,7 @@ pub fn fits_set(s: Set, r: Run) -> bool
 }
 
 // Whether a report is awaited.
-pub fn is_awaited(awaited: Awaited) -> bool
+pub(crate) fn is_awaited(awaited: Awaited) -> bool
     ensures { λ r. ⌜ r ≡ awaits awaited ⌝ }
 {
     match awaited {
