@@ -1,0 +1,5 @@
+pub mod Texts
+pub mod Words
+pub mod Buffers
+pub mod Forms
+pub mod Lines
