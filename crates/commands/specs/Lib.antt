@@ -3,3 +3,4 @@ pub mod Words
 pub mod Buffers
 pub mod Forms
 pub mod Lines
+pub mod Kinds
