@@ -2,8 +2,8 @@
 
 import os
 
+import batch
 import make
-import make_cases
 import replay
 import runs
 import sets
@@ -132,23 +132,21 @@ def refused_change(line, number, before, after):
 
 
 def stored(name):
-    with open(os.path.join(HERE, "stored", name), "rb") as file:
+    with open(os.path.join(HERE, "..", "crates", "replay", name), "rb") as file:
         return file.read()
 
 
-def stored_batches():
-    """The stored command texts and their answers."""
-    cases = "".join(command + "\n" for case in make_cases.all_cases()
-                    for command in case)
-    same("stored cases", stored("cases.txt") == cases.encode("ascii"), True)
-    for commands, answers in (("cases.txt", "cases-answers.txt"),
-                              ("commands.txt", "answers.txt")):
-        got = replay.replay(stored(commands)).split("\n")
-        expected = stored(answers).decode("ascii").split("\n")
-        same("number of answers", len(got), len(expected))
-        for place, (a, b) in enumerate(zip(got, expected), start=1):
-            same("%s line %d" % (answers, place), a, b)
-    same("no case is mangled", stored("cases-answers.txt").count(b"?"), 0)
+def stored_batch():
+    """The stored command text and its answers."""
+    commands = stored("stdin")
+    same("stored commands", commands == batch.batch(), True)
+    got = replay.replay(commands).split("\n")
+    expected = stored("stdout").decode("ascii").split("\n")
+    same("number of answers", len(got), len(expected))
+    for place, (a, b) in enumerate(zip(got, expected), start=1):
+        same("stored line %d" % place, a, b)
+    same("no case is mangled",
+         [a for a in expected[batch.COUNT:] if a.startswith("?")], [])
 
 
-PARTS = [mangled_lines, document_example, batches, stored_batches]
+PARTS = [mangled_lines, document_example, batches, stored_batch]

@@ -1,0 +1,63 @@
+-- The bytes before i are digits.
+use mathlib.Core.Bool.{not}
+use borrow.Author.Tests.{eq-eqb, ne-eqb}
+use Rattle.commands.proofs.WordLaws.{each-fails, each-next, each-end}
+use borrow.Author.Needs.{needs}
+use mathlib.Core.Path.{_≡_, ap, sym, _∙_}
+use Prim.Native.Nat.{_-_, _≤_}
+use native.Mathlib.Omega.{arith}
+use lib.ListN.{length, drop}
+use Rattle.commands.specs.Words.{each, isHex}
+use Rattle.commands.proofs.hexadecimal.is_hexadecimal.Statement.{statement}
+use Rattle.commands.proofs.hexadecimal.is_hexadecimal.Tie as tie
+
+abbrev Inv-loop : tie.InvT-loop
+Inv-loop word i₀ i = (i ≤ length word) × (each isHex word ≡ each isHex (drop i word))
+
+abbrev μ-loop : tie.MeasureT-loop
+μ-loop word i₀ i = length word - i
+
+loop-holds : tie.Need-loop-holds Inv-loop μ-loop
+loop-holds c = search needs
+
+shared-slice-read-value : tie.Need-shared-slice-read-value Inv-loop μ-loop
+shared-slice-read-value c = omega arith
+
+value-requires : tie.Need-value-requires Inv-loop μ-loop
+value-requires c κs = search needs
+
+returns : tie.Need-returns Inv-loop μ-loop
+returns c = let p = c .before .before .before .before in
+    let a = p .before .before .args in
+    sym (p .loop .inv .1 ∙ each-fails isHex (a .word .now) (p .loop .i) (omega arith) (ap not (eq-eqb _ _ (sym (c .before .value .ensures .0) ∙ c .if1 .taken))))
+
+add-i : tie.Need-add-i Inv-loop μ-loop
+add-i c = omega arith
+
+loop-less : tie.Need-loop-less Inv-loop μ-loop
+loop-less c = omega arith
+
+loop-again : tie.Need-loop-again Inv-loop μ-loop
+loop-again c = let p = c .before .before .before .before in
+    let a = p .before .before .args in
+    (omega arith, p .loop .inv .1 ∙ each-next isHex (a .word .now) (p .loop .i) (omega arith) (ap not (ne-eqb _ _ (λ e. c .if1 .left (c .before .value .ensures .0 ∙ e)))))
+
+returns-2 : tie.Need-returns-2 Inv-loop μ-loop
+returns-2 c = let p = c .before in
+    let a = p .before .before .args in
+    sym (p .loop .inv .1 ∙ each-end isHex (a .word .now) (p .loop .i) (omega arith))
+
+pub is-hexadecimal-spec : {M : Type 1} → statement M
+is-hexadecimal-spec =
+    tie.close
+    (tie.spec
+    Inv-loop
+    μ-loop
+    loop-holds
+    shared-slice-read-value
+    value-requires
+    returns
+    add-i
+    loop-less
+    loop-again
+    returns-2)

@@ -1,0 +1,67 @@
+-- The forms of a command's places, and the value of a word in each.
+--
+-- A form is written as a word: a fixed word as itself, in lower case, and any other as a capital:
+-- U a buffer, L a length, O an offset, C a count, I a task, F 0 or 1, B a byte, H 16 bits, W 32 bits, N a name, T a text.
+use mathlib.Core.Bool.{Bool, _||_, cond}
+use mathlib.Core.List.{List}
+use Prim.Native.Nat.{ℕ, zero, suc, _+_, _-_, min}
+use lib.Dec.{eqb, leb}
+use lib.ListN.{getD}
+use Rattle.commands.specs.declared.buffers.Lengths.{Lengths}
+use Rattle.commands.specs.declared.forms.Range.{Range}
+use Rattle.commands.specs.declared.forms.Values.{Values}
+use Rattle.commands.specs.declared.numbers.Found.{Found}
+use Rattle.commands.specs.Texts.{same}
+use Rattle.commands.specs.Words.{foundIf, numberIn, bytesIn}
+use Rattle.commands.specs.Buffers.{lengthOf, mostOf, bufferOf}
+
+-- the numbers from lo on and below n
+abbrev pub upTo : ℕ → ℕ → Range
+upTo lo n = record { lo = lo; end = n }
+
+-- L is 0 to the buffer's most; O is below its length; C is 1 to 256, and O and C together at most its length;
+-- T is 1 to 125 bytes, and the new length at most 1,200; any other capital takes nothing
+unfoldable pub bufferRangeOf : Lengths → Values → ℕ → Range
+bufferRangeOf l vs f =
+    cond (eqb f 76) (upTo 0 (mostOf (vs .first) + 1))
+    (cond (eqb f 79) (upTo 0 (lengthOf l (vs .first)))
+    (cond (eqb f 67) (upTo 1 (min 256 (lengthOf l (vs .first) - vs .second) + 1))
+    (cond (eqb f 84) (upTo 1 (min 125 (1200 - l .text) + 1))
+    (upTo 1 0))))
+
+-- I is 1 to 7; F is 0 or 1; B is 0 to 255; H is 0 to 65,535; W is 0 to 4,294,967,295; N is exactly 16 bytes
+unfoldable pub rangeOf : Lengths → Values → ℕ → Range
+rangeOf l vs f =
+    cond (eqb f 73) (upTo 1 8)
+    (cond (eqb f 70) (upTo 0 2)
+    (cond (eqb f 66) (upTo 0 256)
+    (cond (eqb f 72) (upTo 0 65536)
+    (cond (eqb f 87) (upTo 0 4294967296)
+    (cond (eqb f 78) (upTo 16 17)
+    (bufferRangeOf l vs f))))))
+
+-- N and T ask for bytes
+unfoldable pub asksBytes : ℕ → Bool
+asksBytes f = eqb f 78 || eqb f 84
+
+-- a number, or how many bytes, in a range
+abbrev pub inRange : ℕ → Range → List ℕ → Found
+inRange f r w = cond (asksBytes f) (bytesIn (r .lo) (r .end) w) (numberIn (r .lo) (r .end) w)
+
+-- the value of a word by the letter of its form
+unfoldable pub letterValue : Lengths → Values → ℕ → List ℕ → Found
+letterValue l vs f w = cond (eqb f 85) (bufferOf w) (inRange f (rangeOf l vs f) w)
+
+-- the value of a word in a form: 0 for a fixed word
+unfoldable pub valueOf : Lengths → Values → List ℕ → List ℕ → Found
+valueOf l vs form w = cond (leb 97 (getD form 0 0)) (foundIf (same form w) 0) (letterValue l vs (getD form 0 0) w)
+
+-- the values with that of the word at a place
+abbrev pub kept : Values → ℕ → ℕ → Values
+kept vs place v =
+    cond (eqb place 1) (record { first = v; second = vs .second; third = vs .third })
+    (cond (eqb place 2) (record { first = vs .first; second = v; third = vs .third })
+    (cond (eqb place 3) (record { first = vs .first; second = vs .second; third = v }) vs))
+
+abbrev pub noValues : Values
+noValues = record { first = 0; second = 0; third = 0 }

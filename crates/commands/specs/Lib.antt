@@ -1,0 +1,6 @@
+pub mod Texts
+pub mod Words
+pub mod Buffers
+pub mod Forms
+pub mod Lines
+pub mod Kinds

@@ -1,0 +1,71 @@
+-- The sum of the bytes before i.
+use mathlib.Core.Path.{_≡_, refl, sym, ap, _∙_}
+use Prim.Native.Nat.{_+_, _-_, _<_, _≤_}
+use lib.ListN.{length, drop}
+use Rattle.replay.specs.Bytes.{adlerFrom}
+use Rattle.replay.proofs.BytesLaws.{adler-next, adler-end}
+use borrow.Author.Needs.{needs}
+use native.Mathlib.Omega.{arith}
+use Rattle.replay.proofs.bytes.adler.Statement.{statement}
+use Rattle.replay.proofs.bytes.adler.Tie as tie
+
+abbrev Inv-loop : tie.InvT-loop
+Inv-loop buf a₀ b₀ i₀ a b i = (i ≤ length buf) × (a < 65521) × (b < 65521) × (adlerFrom a b (drop i buf) ≡ adlerFrom 1 0 buf)
+
+abbrev μ-loop : tie.MeasureT-loop
+μ-loop buf a₀ b₀ i₀ a b i = length buf - i
+
+loop-holds : tie.Need-loop-holds Inv-loop μ-loop
+loop-holds c = (omega arith, omega arith, omega arith, refl)
+
+shared-slice-read-step : tie.Need-shared-slice-read-step Inv-loop μ-loop
+shared-slice-read-step c = search needs
+
+step-requires : tie.Need-step-requires Inv-loop μ-loop
+step-requires c κs = search needs
+
+second-step-requires : tie.Need-second-step-requires Inv-loop μ-loop
+second-step-requires c κs = search needs
+
+add-i : tie.Need-add-i Inv-loop μ-loop
+add-i c = search needs
+
+loop-less : tie.Need-loop-less Inv-loop μ-loop
+loop-less c = search needs
+
+loop-again : tie.Need-loop-again Inv-loop μ-loop
+loop-again c = let p = c .before .before .before .before in
+    let l = p .before .before .args .buf .now in (
+      omega arith,
+      c .before .step .ensures .1,
+      c .second-step .ensures .1,
+      rw (c .second-step .ensures .0, c .before .step .ensures .0) (sym (adler-next (p .loop .a) (p .loop .b) (p .loop .i) l (omega arith)) ∙ p .loop .inv .3),
+    )
+
+mul-result : tie.Need-mul-result Inv-loop μ-loop
+mul-result c = search needs
+
+add-result : tie.Need-add-result Inv-loop μ-loop
+add-result c = search needs
+
+returns : tie.Need-returns Inv-loop μ-loop
+returns c = let p = c .before in
+    let l = p .before .before .args .buf .now in
+    sym (adler-end (p .loop .a) (p .loop .b) (p .loop .i) l (omega arith)) ∙ p .loop .inv .3
+
+pub adler-spec : {M : Type 1} → statement M
+adler-spec =
+    tie.close
+    (tie.spec
+    Inv-loop
+    μ-loop
+    loop-holds
+    shared-slice-read-step
+    step-requires
+    second-step-requires
+    add-i
+    loop-less
+    loop-again
+    mul-result
+    add-result
+    returns)

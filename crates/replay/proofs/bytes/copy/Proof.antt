@@ -1,0 +1,61 @@
+-- The bytes before i are copied.
+use lib.ListN.{length-set}
+use mathlib.Core.Path.{_≡_, refl, sym, ap, _∙_}
+use Prim.Native.Nat.{_-_, _≤_}
+use lib.ListN.{length, drop}
+use Rattle.replay.specs.Bytes.{putAt}
+use Rattle.replay.proofs.BytesLaws.{put-next, put-end}
+use borrow.Author.Needs.{needs}
+use native.Mathlib.Omega.{arith}
+use Rattle.replay.proofs.bytes.copy.Statement.{statement}
+use Rattle.replay.proofs.bytes.copy.Tie as tie
+
+abbrev Inv-loop : tie.InvT-loop
+Inv-loop part buf₀ i₀ buf i = (i ≤ length part) × (putAt i (drop i part) buf ≡ putAt 0 part buf₀) × (length buf ≡ length buf₀)
+
+abbrev μ-loop : tie.MeasureT-loop
+μ-loop part buf₀ i₀ buf i = length part - i
+
+loop-holds : tie.Need-loop-holds Inv-loop μ-loop
+loop-holds c = (omega arith, refl, refl)
+
+shared-slice-read-poke : tie.Need-shared-slice-read-poke Inv-loop μ-loop
+shared-slice-read-poke c = search needs
+
+poke-requires : tie.Need-poke-requires Inv-loop μ-loop
+poke-requires c κs = search needs
+
+add-i : tie.Need-add-i Inv-loop μ-loop
+add-i c = search needs
+
+loop-less : tie.Need-loop-less Inv-loop μ-loop
+loop-less c = search needs
+
+loop-again : tie.Need-loop-again Inv-loop μ-loop
+loop-again c = let p = c .before .before .before .before .before .before in
+    let a = p .before .before .before .args in
+    let e = c .before .before .poke .ensures in
+    (omega arith, rw e (sym (put-next (p .loop .i) (p .loop .i) (a .part .now) (p .loop .buf) (omega arith)) ∙ p .loop .inv .1), rw (e, length-set) (p .loop .inv .2))
+
+same-length : tie.Need-same-length Inv-loop μ-loop
+same-length c = search needs
+
+returns : tie.Need-returns Inv-loop μ-loop
+returns c = let p = c .before in
+    let a = p .before .before .before .args in
+    sym (put-end (p .loop .i) (p .loop .i) (a .part .now) (p .loop .buf) (omega arith)) ∙ p .loop .inv .1
+
+pub copy-spec : {M : Type 1} → statement M
+copy-spec =
+    tie.close
+    (tie.spec
+    Inv-loop
+    μ-loop
+    loop-holds
+    shared-slice-read-poke
+    poke-requires
+    add-i
+    loop-less
+    loop-again
+    same-length
+    returns)

@@ -1,0 +1,56 @@
+-- The bytes before i are filled.
+use lib.ListN.{length, length-set}
+use mathlib.Core.Path.{_≡_, refl, sym, ap, _∙_}
+use Prim.Native.Nat.{_-_, _≤_}
+use Rattle.replay.specs.Bytes.{filled}
+use Rattle.replay.proofs.BytesLaws.{filled-next, filled-end}
+use borrow.Author.Needs.{needs}
+use native.Mathlib.Omega.{arith}
+use Rattle.replay.proofs.bytes.fill.Statement.{statement}
+use Rattle.replay.proofs.bytes.fill.Tie as tie
+
+abbrev Inv-loop : tie.InvT-loop
+Inv-loop buf₀ from end v i₀ buf i = (from ≤ i) × (filled (end - i) i v buf ≡ filled (end - from) from v buf₀) × (length buf ≡ length buf₀)
+
+abbrev μ-loop : tie.MeasureT-loop
+μ-loop buf₀ from end v i₀ buf i = end - i
+
+loop-holds : tie.Need-loop-holds Inv-loop μ-loop
+loop-holds c = (omega arith, refl, refl)
+
+poke-requires : tie.Need-poke-requires Inv-loop μ-loop
+poke-requires c κs = search needs
+
+add-i : tie.Need-add-i Inv-loop μ-loop
+add-i c = search needs
+
+loop-less : tie.Need-loop-less Inv-loop μ-loop
+loop-less c = search needs
+
+loop-again : tie.Need-loop-again Inv-loop μ-loop
+loop-again c = let p = c .before .before .before .before .before in
+    let a = p .before .before .args in
+    let e = c .before .before .poke .ensures in
+    (omega arith, rw e (sym (filled-next (a .end) (p .loop .i) (a .v) (p .loop .buf) (omega arith)) ∙ p .loop .inv .1), rw (e, length-set) (p .loop .inv .2))
+
+same-length : tie.Need-same-length Inv-loop μ-loop
+same-length c = search needs
+
+returns : tie.Need-returns Inv-loop μ-loop
+returns c = let p = c .before in
+    let a = p .before .before .args in
+    sym (filled-end (a .end) (p .loop .i) (a .v) (p .loop .buf) (omega arith)) ∙ p .loop .inv .1
+
+pub fill-spec : {M : Type 1} → statement M
+fill-spec =
+    tie.close
+    (tie.spec
+    Inv-loop
+    μ-loop
+    loop-holds
+    poke-requires
+    add-i
+    loop-less
+    loop-again
+    same-length
+    returns)

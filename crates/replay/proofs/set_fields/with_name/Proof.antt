@@ -1,0 +1,54 @@
+-- The bytes before i are those of the name.
+use mathlib.Core.Path.{_≡_, refl, sym, ap, _∙_}
+use Prim.Native.Nat.{_-_, _≤_}
+use Rattle.replay.specs.Bytes.{putAt, said}
+use Rattle.replay.proofs.BytesLaws.{said-next, said-end, set-is}
+use borrow.Author.Needs.{needs}
+use native.Mathlib.Omega.{arith}
+use Rattle.replay.proofs.set_fields.with_name.Statement.{statement}
+use Rattle.replay.proofs.set_fields.with_name.Tie as tie
+
+abbrev Inv-loop : tie.InvT-loop
+Inv-loop word r₀ i₀ r i = (i ≤ 16) × (putAt i (said word (16 - i) i) (r .name) ≡ putAt 0 (said word 16 0) (r₀ .name)) × (r .count ≡ r₀ .count) × (r .tasks ≡ r₀ .tasks)
+
+abbrev μ-loop : tie.MeasureT-loop
+μ-loop word r₀ i₀ r i = 16 - i
+
+loop-holds : tie.Need-loop-holds Inv-loop μ-loop
+loop-holds c = (omega arith, refl, refl, refl)
+
+byte-requires : tie.Need-byte-requires Inv-loop μ-loop
+byte-requires c κs = search needs
+
+element-write-r : tie.Need-element-write-r Inv-loop μ-loop
+element-write-r c = search needs
+
+add-i : tie.Need-add-i Inv-loop μ-loop
+add-i c = search needs
+
+loop-less : tie.Need-loop-less Inv-loop μ-loop
+loop-less c = search needs
+
+loop-again : tie.Need-loop-again Inv-loop μ-loop
+loop-again c = let p = c .before .before in
+    let a = p .before .before .args in
+    (omega arith, rw (c .byte .ensures) (sym (said-next (a .word .now) 16 (p .loop .i) (p .loop .i) (p .loop .r .name) (omega arith)) ∙ p .loop .inv .1), p .loop .inv .2, p .loop .inv .3)
+
+returns : tie.Need-returns Inv-loop μ-loop
+returns c = let p = c .before in
+    let a = p .before .before .args in
+    set-is (p .loop .r) _ _ _ (sym (said-end (a .word .now) 16 (p .loop .i) (p .loop .i) (p .loop .r .name) (omega arith)) ∙ p .loop .inv .1) (p .loop .inv .2) (p .loop .inv .3)
+
+pub with-name-spec : {M : Type 1} → statement M
+with-name-spec =
+    tie.close
+    (tie.spec
+    Inv-loop
+    μ-loop
+    loop-holds
+    byte-requires
+    element-write-r
+    add-i
+    loop-less
+    loop-again
+    returns)

@@ -1,0 +1,28 @@
+-- Bytes of a buffer: filled, put in, and summed.
+use mathlib.Core.List.{List, [], _∷_}
+use Prim.Native.Nat.{ℕ, zero, suc, _+_, _*_, _%_}
+use lib.ListN.{set}
+use Rattle.commands.specs.Words.{byteAt}
+
+-- the k bytes from place i on become v; a place beyond the buffer has no byte
+unfoldable pub filled : ℕ → ℕ → ℕ → List ℕ → List ℕ
+filled zero i v l = l
+filled (suc k) i v l = filled k (i + 1) v (set l i v)
+
+-- bytes go to a buffer from place i on
+unfoldable pub putAt : ℕ → List ℕ → List ℕ → List ℕ
+putAt i [] l = l
+putAt i (b ∷ p) l = putAt (i + 1) p (set l i b)
+
+-- the k bytes that a word says from its byte i on
+unfoldable pub said : List ℕ → ℕ → ℕ → List ℕ
+said w zero i = []
+said w (suc k) i = byteAt w i ∷ said w k (i + 1)
+
+-- the Adler-32 sum: for each byte, in order, a becomes (a + byte) mod 65,521 and then b becomes (b + a) mod 65,521
+unfoldable pub adlerFrom : ℕ → ℕ → List ℕ → ℕ
+adlerFrom a b [] = b * 65536 + a
+adlerFrom a b (x ∷ l) = adlerFrom ((a + x) % 65521) ((b + (a + x) % 65521) % 65521) l
+
+abbrev pub adlerOf : List ℕ → ℕ
+adlerOf l = adlerFrom 1 0 l

@@ -1,0 +1,215 @@
+// A log of commands on standard input, an answer line for each of its lines.
+mod buffer_commands;
+mod bytes;
+mod desk;
+mod run_commands;
+mod run_fields;
+mod say;
+mod set_commands;
+mod set_fields;
+mod table_commands;
+
+use commands::kinds;
+use commands::lines;
+use commands::lines::Command;
+use commands::lines::Parsed;
+use desk::Desk;
+use libc::STDIN_FILENO;
+
+// Of a line that is too long, one byte more than a line may have is kept.
+const KEPT: u32 = 256;
+
+// What is kept from byte to byte: the desk, the bytes of the line so far, the lines before it, and whether the log has ended.
+struct Log {
+    desk: Desk,
+    used: u32,
+    lines: u64,
+    ended: bool,
+}
+
+fn begun() -> Log {
+    let desk = desk::fresh();
+    Log {
+        desk: desk,
+        used: 0,
+        lines: 0,
+        ended: false,
+    }
+}
+
+// A command, and the desk after it.
+fn carry_out(
+    c: Command,
+    line: &[u8],
+    d: Desk,
+    table: &mut [u8],
+    work: &mut [u8],
+    file: &mut [u8],
+    text: &mut [u8],
+) -> Desk {
+    let mut after = d;
+    let set = d.set;
+    let run = d.run;
+    let l = d.lengths;
+    if c.kind == kinds::RESET {
+        say::ok();
+        return desk::fresh();
+    }
+    if c.kind <= kinds::TEXT {
+        after.lengths = buffer_commands::carry_out(c, line, l, table, work, file, text);
+        return after;
+    }
+    if c.kind <= kinds::TEST_SET {
+        after.set = set_commands::carry_out(c, line, set, l.text, text);
+        return after;
+    }
+    if c.kind <= kinds::OPEN {
+        after.lengths = table_commands::carry_out(c, set, l, table, work, file);
+        return after;
+    }
+    after.run = run_commands::carry_out(c, set, run, l.table, table);
+    after
+}
+
+// A line: mangled, it is named and nothing is touched.
+fn answer(
+    line: &[u8],
+    number: u64,
+    d: Desk,
+    table: &mut [u8],
+    work: &mut [u8],
+    file: &mut [u8],
+    text: &mut [u8],
+) -> Desk {
+    let l = d.lengths;
+    let parsed = lines::parse(line, l);
+    match parsed {
+        Parsed::Mangled => {
+            say::mangled(number);
+            d
+        }
+        Parsed::Taken(c) => carry_out(c, line, d, table, work, file, text),
+    }
+}
+
+// The line's end.
+fn end_line(
+    g: Log,
+    line: &[u8],
+    table: &mut [u8],
+    work: &mut [u8],
+    file: &mut [u8],
+    text: &mut [u8],
+) -> Log {
+    let number = std::num::wrapping_add_u64(g.lines, 1);
+    let d = g.desk;
+    let used = bytes::within(g.used, line);
+    let after = answer(&line[..used], number, d, table, work, file, text);
+    Log {
+        desk: after,
+        used: 0,
+        lines: number,
+        ended: false,
+    }
+}
+
+// A byte of the log.
+fn take_byte(
+    b: u8,
+    g: Log,
+    line: &mut [u8],
+    table: &mut [u8],
+    work: &mut [u8],
+    file: &mut [u8],
+    text: &mut [u8],
+) -> Log {
+    if b == b'\n' {
+        return end_line(g, line, table, work, file, text);
+    }
+    let mut next = g;
+    if g.used < KEPT {
+        bytes::poke(line, g.used as usize, b);
+        next.used = g.used + 1;
+    }
+    next
+}
+
+// A piece of the log.
+fn take_piece(
+    piece: &[u8],
+    g: Log,
+    line: &mut [u8],
+    table: &mut [u8],
+    work: &mut [u8],
+    file: &mut [u8],
+    text: &mut [u8],
+) -> Log {
+    let mut next = g;
+    let mut i = 0;
+    while i < piece.len() {
+        next = take_byte(piece[i], next, line, table, work, file, text);
+        i += 1;
+    }
+    next
+}
+
+// One piece of standard input: none is left at its end.
+fn take_some(
+    g: Log,
+    line: &mut [u8],
+    table: &mut [u8],
+    work: &mut [u8],
+    file: &mut [u8],
+    text: &mut [u8],
+) -> Log {
+    let mut piece = io::large_buffer();
+    let got = libc::read(STDIN_FILENO, &mut piece);
+    let n = io::count(got, &piece);
+    let mut next = take_piece(&piece[..n], g, line, table, work, file, text);
+    next.ended = n == 0;
+    next
+}
+
+// Piece by piece, to the end: the turns are counted down from a number that no log uses up.
+fn read_log(
+    line: &mut [u8],
+    table: &mut [u8],
+    work: &mut [u8],
+    file: &mut [u8],
+    text: &mut [u8],
+) -> Log {
+    let mut g = begun();
+    let mut turns = u64::MAX;
+    while turns > 0 {
+        g = take_some(g, line, table, work, file, text);
+        if g.ended {
+            return g;
+        }
+        turns -= 1;
+    }
+    g
+}
+
+// Bytes after the last LF are a line too.
+fn finish(
+    g: Log,
+    line: &[u8],
+    table: &mut [u8],
+    work: &mut [u8],
+    file: &mut [u8],
+    text: &mut [u8],
+) {
+    if 0 < g.used {
+        end_line(g, line, table, work, file, text);
+    }
+}
+
+fn main() {
+    let mut line = [0u8; 256];
+    let mut table = [0u8; 65536];
+    let mut work = [0u8; 65536];
+    let mut file = [0u8; 70000];
+    let mut text = [0u8; 1200];
+    let g = read_log(&mut line, &mut table, &mut work, &mut file, &mut text);
+    finish(g, &line, &mut table, &mut work, &mut file, &mut text);
+}
