@@ -10,10 +10,10 @@ use lib.Seq.{take-at}
 use Rattle.tasks.specs.declared.sets.Set.{Set}
 use Rattle.tasks.specs.declared.sets.Tested.{Tested}
 use Rattle.tasks.specs.declared.sets.Tested.the-variants.{States, Refused as FailedWith}
-use Rattle.tasks.specs.Refusals.{answered, refusing, bufferTooShort}
-use Rattle.tasks.specs.Sets.{testSet}
+use Rattle.tasks.specs.Refusals.{answered, refusing, short}
+use Rattle.tasks.specs.Sets.{Sized, testSet}
 use Rattle.sheet_form.specs.Form.{longest, Form, fits, stops, Member}
-use Rattle.sheet_form.specs.Sets.{setOf, sheetOf, textOf, Sized}
+use Rattle.sheet_form.specs.Sets.{setOf, sheetOf, textOf}
 use Rattle.sheet_form.proofs.Places.{form}
 use Rattle.tasks.proofs.Valid.{valid}
 use Rattle.sheet_form.proofs.Trips.{text-back, sheet-formed, set-back}
@@ -45,7 +45,7 @@ sheet-reads s k z e =
 written : (s : Set) (b d : List ℕ) (n : ℕ) (r : Tested) → leaving (Length n) d ≡ testedWrite s b r → (k : ℕ) × (r ≡ States k) × (take n d ≡ textOf s)
 written s b d n (States k) e = (k, refl, go (leb (length (textOf s)) (length b)) e)
   where
-    go : (c : Bool) → leaving (Length n) d ≡ cond c (leaving (Length (length (textOf s))) (textOf s ++ drop (length (textOf s)) b)) (leaving (Refused (record { number = bufferTooShort; place = length (textOf s) })) b) → take n d ≡ textOf s
+    go : (c : Bool) → leaving (Length n) d ≡ cond c (leaving (Length (length (textOf s))) (textOf s ++ drop (length (textOf s)) b)) (leaving (Refused (short (length (textOf s)))) b) → take n d ≡ textOf s
     go true e =
         let h = ap (λ (w : Written). w .answer) e in
         let p : n ≡ length (textOf s) = cc in
@@ -93,7 +93,7 @@ read-written-said s z b d n e q r = ap saidRead (read-written s z b d n e q r)
 -- the text t is written into the buffer b: whole, with b's own bytes beyond it; where b is too short not at all, and refused with 7 and the length of t
 pub record Rewritten (t b : List ℕ) (w : Written) : Type 0 where
   pub whole : length t ≤ length b → (saidWrote (w .answer) ≡ answered (length t ∷ [])) × (w .bytes ≡ t ++ drop (length t) b)
-  pub refused : length b < length t → (saidWrote (w .answer) ≡ refusing 1 (record { number = bufferTooShort; place = length t })) × (w .bytes ≡ b)
+  pub refused : length b < length t → (saidWrote (w .answer) ≡ refusing 1 (short (length t))) × (w .bytes ≡ b)
 
 pub write-read-said : (t : List ℕ) (q : SheetRead) → q ≡ readText t → saidRead q .number ≡ 0 → (b : List ℕ) → Rewritten t b (writeOf (q .set) b)
 write-read-said t q e g b =

@@ -2,9 +2,9 @@
 // reader's place and the set beside the answer are printed and, where the set was taken, what is written of it.
 mod say;
 
-use say::say;
+use cases::lines::put;
+use cases::lines::put_number;
 use say::say_answer;
-use say::say_number;
 use say::say_set;
 use say::say_wrote;
 use sheet_reader::ReadAnswer;
@@ -14,10 +14,11 @@ ghost use lib.ListN.{length};
 
 // What writing a set answers, and the buffer after it.
 fn write(set: Set, buf: &mut [u8]) {
+    put(b"write");
     say_wrote(sheet::write(set, buf));
-    say(b"\n");
-    say(buf);
-    say(b"\n");
+    put(b"\n");
+    put(buf);
+    put(b"\n");
 }
 
 // A set that was taken, written into a buffer with room for more; nothing of a refused one.
@@ -36,9 +37,9 @@ fn read(text: &[u8]) {
     let a = r.answer;
     let set = r.set;
     say_answer(a);
-    say_number(b" at ", sheet_reader::place_after(text, 0) as u64);
+    put_number(b" at ", sheet_reader::place_after(text, 0) as u64);
     say_set(set);
-    say(b"\n");
+    put(b"\n");
     write_back(a, set);
 }
 
@@ -63,8 +64,8 @@ fn read_one(cases: &[u8], i: usize) -> usize
     ensures { λ r. ⌜ (i < r) × (r ≤ length (now (cases .entry))) ⌝ }
 {
     let bar = find(cases, i, b'|');
-    say(&cases[i..bar]);
-    say(b": ");
+    put(&cases[i..bar]);
+    put(b":");
     if bar == cases.len() {
         return bar;
     }

@@ -8,16 +8,13 @@ use lib.Dec.{T, eqb, ltb}
 use lib.ListN.{length, getD, drop, replicate, length-append, length-map}
 use lib.Seq.{drop-at, getD-at, getD-append-add}
 use borrow.Author.Tests.{lt-ltb, le-ltb, le-leb, ne-eqb, eq-eqb}
-use Rattle.tasks.specs.declared.refusals.Refusal.{Refusal}
-use Rattle.tasks.specs.declared.sets.Set.{Set}
 use Rattle.tasks.specs.declared.sets.Tested.{Tested}
-use Rattle.tasks.specs.declared.sets.Tested.the-variants.{States, Refused}
+use Rattle.tasks.specs.declared.sets.Tested.the-variants.{Refused}
 use Rattle.tasks.specs.Lists.{headOr, lastOr, shortestOf, longestOf, lengthOf}
-use Rattle.tasks.specs.Refusals.{badRecord, tooManyStates}
-use Rattle.tasks.specs.Sets.{characters, zeros, goodName, noTask, blank, unfit, faultOf, taskAt, faultAt, statesOf, refuseOr, lowestFault, testStates, testSet}
+use Rattle.tasks.specs.Refusals.{badRecord}
+use Rattle.tasks.specs.Sets.{characters, zeros, goodName, noTask, blank, unfit, faultOf, taskAt, faultAt, refuseOr, lowestFault, testStates, testSet}
 use Rattle.sheet_form.specs.Form.{Values, Line, Sheet, Each, ValuesOk, LineOk, NameOk, Formed}
 use Rattle.sheet_form.specs.Sets.{numbers, rising, listOf, kindOf, taskOf, padded, setOf, lineFault, lowestLine}
-use Rattle.sheet_form.proofs.Tests.{by-cond}
 use Rattle.sheet_form.proofs.Bits.{list-says, kept-none}
 use Rattle.sheet_form.proofs.Lengths.{last-snoc}
 use Rattle.sheet_form.proofs.Trips.{none-of-zeros, characters-back}
@@ -176,37 +173,3 @@ lowest-at (x ∷ xs) l ys i t h p =
 pub not-rising : (l : Line) → (rising (l .runs) && rising (l .gaps)) ≡ false → lineFault l ≡ badRecord
 unfolding lineFault
 not-rising l e = rw e refl
-
--- THE NUMBERS OF ITS REFUSALS: 3 to 6
-
-abbrev Own : ℕ → Type 0
-Own n = (3 ≤ n) × (n ≤ 6)
-
-refuse-own : (n p : ℕ) (t : Tested) (f : Refusal) → (0 < n → Own n) → (t ≡ Refused f → Own (f .number)) → refuseOr n p t ≡ Refused f → Own (f .number)
-refuse-own zero p t f h k e = k e
-refuse-own (suc n) p t f h k e =
-    let g : record { number = suc n; place = p } ≡ f = cc in
-    subst Own (ap (λ (x : Refusal). x .number) g) (h (omega arith))
-
-line-own : (l : Line) → 0 < lineFault l → Own (lineFault l)
-unfolding lineFault
-line-own l =
-    by-cond P (rising (l .runs) && rising (l .gaps))
-    (λ b. by-cond P (ltb (l .deadline) (l .runs .final)) (λ b h. omega arith) (λ b. by-cond P (ltb (headOr 0 (numbers (l .gaps))) (l .deadline)) (λ b h. omega arith) (λ b h. omega arith)))
-    (λ b h. omega arith)
-  where
-    P : ℕ → Type 0
-    P n = 0 < n → Own n
-
-lines-own : (ls : List Line) (i : ℕ) (t : Tested) (f : Refusal) → (t ≡ Refused f → Own (f .number)) → lowestLine i ls t ≡ Refused f → Own (f .number)
-lines-own [] i t f h e = h e
-lines-own (l ∷ ls) i t f h e = refuse-own (lineFault l) (suc i) (lowestLine (suc i) ls t) f (line-own l) (lines-own ls (suc i) t f h) e
-
-states-own : (s : Set) (f : Refusal) → testStates s ≡ Refused f → Own (f .number)
-unfolding testStates
-states-own s f =
-    refuse-own (cond (ltb 60000 (statesOf s)) tooManyStates 0) 0 (States (statesOf s)) f
-    (by-cond (λ n. 0 < n → Own n) (ltb 60000 (statesOf s)) (λ b h. omega arith) (λ b h. omega arith)) (λ e. let z : _≡_ {A = ℕ} 0 1 = cc in absurd (omega arith))
-
-pub refused-own : (s : Sheet) → Formed s → (f : Refusal) → testSet (setOf s) ≡ Refused f → (3 ≤ f .number) × (f .number ≤ 6)
-refused-own s h f e = lines-own (s .lines) 0 (testStates (setOf s)) f (states-own (setOf s) f) (sym (lines-tested s h) ∙ e)

@@ -15,14 +15,14 @@ use Rattle.tasks.specs.Sets.{characters}
 use Rattle.tasks.proofs.ListLaws.{longest-le}
 use Rattle.sheet_form.specs.Form.{Values, each, Each, space, lf, decimal, withComma, valuesText, kindText, lineText, setText, longest}
 use Rattle.sheet_form.specs.Sets.{lastApart, lineOf, textOf}
-use Rattle.sheet_form.proofs.Tests.{by-cond}
+use Rattle.arena.proofs.Tests.{by-cond}
 use Rattle.sheet_form.proofs.Bits.{apart-snoc}
 use Rattle.tasks.proofs.Valid.{ValidTask, Valid}
 use Rattle.sheet_form.proofs.Valid.{name-ok, task-count, tasks-ok}
 
 pub decimal-length : (v : ℕ) → length (decimal v) ≤ 2
 unfolding decimal
-decimal-length v = by-cond (λ (l : List ℕ). length l ≤ 2) (ltb v 10) (λ t. omega arith) (λ t. omega arith)
+decimal-length v = by-cond (λ (l : List ℕ). length l ≤ 2) (ltb v 10) _ _ (λ t. omega arith) (λ t. omega arith)
 
 pub kind-length : (b : Bool) → length (kindText b) ≡ 5
 kind-length true = refl

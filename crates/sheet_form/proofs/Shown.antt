@@ -11,8 +11,8 @@ use lib.Seq.{take-suc, take-all}
 use Rattle.sheet_form.specs.Form.{Line, Sheet, each, Each, decimal, withComma, valuesText, kindText, lineText, setText, sheetText, Small, ValuesOk, LineOk, NameOk}
 use Rattle.tasks.specs.Sets.{nameByte}
 use Rattle.sheet_form.specs.Machine.{Word, opening, kind, Field, deadline, runs, gaps, State, word, name, line, field, fault, spell, after, ender, many, close, digit, step}
-use Rattle.arena.proofs.Tests.{T-true, T-false, and-left, and-right}
-use Rattle.sheet_form.proofs.Tests.{by-cond, each-snoc, Each-snoc}
+use Rattle.arena.proofs.Tests.{T-true, T-false, and-left, and-right, by-cond}
+use Rattle.sheet_form.proofs.Tests.{each-snoc, Each-snoc}
 
 -- the digits of a number begun
 abbrev pub begun : ℕ → List ℕ
@@ -83,8 +83,8 @@ after-ok (kind s h) o = (o, refl, tt, omega arith)
 word-reads : (w : Word) (k b : ℕ) → WordOk w → k < length (spell w) → Reads (shown (word w k) ++ (b ∷ [])) (step (word w k) b)
 unfolding step
 word-reads w k b o h =
-    by-cond R (eqb b (getD (spell w) k 0))
-    (λ e. by-cond R (ltb (suc k) (length (spell w)))
+    by-cond R (eqb b (getD (spell w) k 0)) _ _
+    (λ e. by-cond R (ltb (suc k) (length (spell w))) _ _
     (λ l. inr ((o, ltb→lt (suc k) (length (spell w)) l), one e))
     (λ l. inr (after-ok w o, after-shown w ∙ ap (λ x. before w ++ x) (sym (take-all (suc k) (spell w) (nltb→le (suc k) (length (spell w)) l))) ∙ one e)))
     (λ n. inl refl)
@@ -98,11 +98,11 @@ word-reads w k b o h =
 name-reads : (n : List ℕ) (b : ℕ) → Ok (name n) → Reads (shown (name n) ++ (b ∷ [])) (step (name n) b)
 unfolding step
 name-reads n b o =
-    by-cond R (nameByte b)
-    (λ c. by-cond R (ltb (length n) 16)
+    by-cond R (nameByte b) _ _
+    (λ c. by-cond R (ltb (length n) 16) _ _
     (λ l. inr ((Each-snoc _ n b (o .0) c, omega (arith, length-append n (b ∷ []), ltb→lt (length n) 16 l)), refl))
     (λ l. inl refl))
-    (λ c. by-cond R (ltb 0 (length n) && eqb b 10)
+    (λ c. by-cond R (ltb 0 (length n) && eqb b 10) _ _
     (λ l. inr ((record { bytes = o .0; low = ltb→lt 0 (length n) (and-left (ltb 0 (length n)) _ l); high = o .1 }, tt, omega arith), append-nil (setText ++ n ++ (10 ∷ [])) ∙ at-byte (setText ++ n) b 10 (and-right (ltb 0 (length n)) _ l)))
     (λ l. inl refl))
   where
@@ -112,10 +112,10 @@ name-reads n b o =
 line-reads : (s : Sheet) (b : ℕ) → Ok (line s) → Reads (sheetText s ++ (b ∷ [])) (step (line s) b)
 unfolding step
 line-reads s b o =
-    by-cond R (ltb (length (s .lines)) 7)
-    (λ r. by-cond R (eqb b 104)
+    by-cond R (ltb (length (s .lines)) 7) _ _
+    (λ r. by-cond R (eqb b 104) _ _
     (λ e. inr ((room r, omega arith), at-byte (sheetText s) b 104 e))
-    (λ n. by-cond R (eqb b 115)
+    (λ n. by-cond R (eqb b 115) _ _
     (λ e. inr ((room r, omega arith), at-byte (sheetText s) b 115 e))
     (λ m. inl refl)))
     (λ n. inl refl)
@@ -147,7 +147,7 @@ digit-begun (suc n) b p q r h =
 digit-shown : (v b : ℕ) → 0 < digit v b → (digit v b ≤ 16) × (begun (digit v b) ≡ begun v ++ (b ∷ []))
 unfolding digit
 digit-shown v b =
-    by-cond (λ n. 0 < n → (n ≤ 16) × (begun n ≡ begun v ++ (b ∷ []))) (leb 48 b && leb b 57 && leb (10 * v + (b - 48)) 16)
+    by-cond (λ n. 0 < n → (n ≤ 16) × (begun n ≡ begun v ++ (b ∷ []))) (leb 48 b && leb b 57 && leb (10 * v + (b - 48)) 16) _ _
     (λ t p. let u = and-left (leb 48 b && leb b 57) _ t in let m = leb→le (10 * v + (b - 48)) 16 (and-right (leb 48 b && leb b 57) _ t) in
     (m, digit-begun v b (leb→le 48 b (and-left (leb 48 b) _ u)) (leb→le b 57 (and-right (leb 48 b) _ u)) m p))
     (λ t p. let z : ⊥ = omega arith in absurd z)
@@ -181,11 +181,11 @@ close-reads f xs zero b o p e = let z : ⊥ = omega arith in absurd z
 field-reads : (f : Field) (xs : List ℕ) (v b : ℕ) → Ok (field f xs v) → Reads (shown (field f xs v) ++ (b ∷ [])) (step (field f xs v) b)
 unfolding step
 field-reads f xs v b o =
-    by-cond R (ltb 0 (digit v b)) {x = field f xs (digit v b)}
+    by-cond R (ltb 0 (digit v b)) (field f xs (digit v b)) _
     (λ d. let g = digit-shown v b (ltb→lt 0 (digit v b) d) in inr ((o .0, o .1, o .2, g .0), ap (λ l. till f ++ (each withComma xs ++ l)) (g .1) ∙ grown (begun v)))
-    (λ d. by-cond R (ltb 0 v)
-    (λ p. by-cond R (eqb b (ender f)) (λ e. inr (close-reads f xs v b o (ltb→lt 0 v p) e))
-    (λ n. by-cond R (many f && eqb b 44) {x = field f (xs ++ (v ∷ [])) 0} (λ e. inr (
+    (λ d. by-cond R (ltb 0 v) _ _
+    (λ p. by-cond R (eqb b (ender f)) _ _ (λ e. inr (close-reads f xs v b o (ltb→lt 0 v p) e))
+    (λ n. by-cond R (many f && eqb b 44) (field f (xs ++ (v ∷ [])) 0) _ (λ e. inr (
       (o .0, several f (and-left (many f) _ e), Each-snoc Small xs v (o .2) (record { low = ltb→lt 0 v p; high = o .3 }), omega arith),
       comma p (eqb→eq b 44 (and-right (many f) _ e)),
     )) (λ m. inl refl)))

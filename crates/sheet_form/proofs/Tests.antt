@@ -1,16 +1,9 @@
--- Laws of choices and lists. Assumes nothing.
+-- Laws of lists. Assumes nothing.
 use mathlib.Core.Path.{_≡_, refl, sym, ap, _∙_}
-use mathlib.Core.Bool.{Bool, true, false, not, cond}
 use mathlib.Core.List.{List, [], _∷_, _++_, append-assoc, append-nil}
 use Prim.Native.Nat.{ℕ, zero, suc}
-use lib.Dec.{T}
 use lib.ListN.{take}
 use Rattle.sheet_form.specs.Form.{each, Each}
-
--- what holds of both arms, each under its test
-pub by-cond : {A : Type 0} (P : A → Type 0) (b : Bool) {x y : A} → (T b → P x) → (T (not b) → P y) → P (cond b x y)
-by-cond P true p q = p tt
-by-cond P false p q = q tt
 
 module _ {A : Type 0} where
   pub each-append : (f : A → List ℕ) (xs ys : List A) → each f (xs ++ ys) ≡ each f xs ++ each f ys

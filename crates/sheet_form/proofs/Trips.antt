@@ -11,14 +11,13 @@ use lib.Seq.{take-at}
 use Rattle.tasks.specs.declared.sets.Task.{Task}
 use Rattle.tasks.specs.declared.sets.Set.{Set}
 use Rattle.tasks.specs.Lists.{lengthOf}
-use Rattle.tasks.specs.Sets.{nameByte, characters, noTask}
+use Rattle.tasks.specs.Sets.{nameByte, characters, noTask, Sized}
 use Rattle.sheet_form.specs.Form.{Values, Line, Sheet, Each, Small, LineOk, Formed, sheetText}
-use Rattle.sheet_form.specs.Sets.{rising, listOf, kindOf, taskOf, padded, setOf, lineOf, sheetOf, textOf, Wide, Sized}
+use Rattle.sheet_form.specs.Sets.{rising, listOf, kindOf, taskOf, padded, setOf, lineOf, sheetOf, textOf}
 use Rattle.arena.proofs.Tests.{decide, T-true, T-false}
-use Rattle.sheet_form.proofs.Tests.{Each-take}
 use Rattle.sheet_form.proofs.Bits.{kept-none, list-back, bits-said}
 use Rattle.tasks.proofs.Valid.{ValidTask, Valid}
-use Rattle.sheet_form.proofs.Valid.{name-ok, name-rest, task-count, tasks-ok, tasks-rest}
+use Rattle.sheet_form.proofs.Valid.{name-ok, name-rest, task-count, tasks-each, tasks-ok, tasks-rest}
 
 pub record LineRises (l : Line) : Type 0 where
   pub runs : T (rising (l .runs))
@@ -89,6 +88,10 @@ lines-ok : (ts : List Task) → Each ValidTask ts → Each LineOk (map lineOf ts
 lines-ok [] h = tt
 lines-ok (τ ∷ ts) h = (record { deadline = small (τ .deadline) (h .0 .deadline); runs = bits-said (τ .runs) (h .0 .runs) .ok; gaps = bits-said (τ .gaps) (h .0 .gaps) .ok }, lines-ok ts (h .1))
 
+-- both lists fit 16 bits
+abbrev Wide : Task → Type 0
+Wide τ = (τ .runs < 65536) × (τ .gaps < 65536)
+
 task-back : (τ : Task) → ValidTask τ → Wide τ → taskOf (lineOf τ) ≡ τ
 task-back τ h w =
     λ i. record { kind = kind-again (τ .kind) (h .kind) i; deadline = τ .deadline; runs = bits-said (τ .runs) (h .runs) .kept (w .0) i; gaps = bits-said (τ .gaps) (h .gaps) .kept (w .1) i }
@@ -112,5 +115,5 @@ set-back s z v =
     λ i. record {
       name = sym (name-rest (s .name) (v .name) (z .name)) i;
       count = line-count s v i;
-      tasks = (ap (padded 7 noTask) (tasks-back ts (tasks-ok s v) (Each-take Wide (s .count) (s .tasks) (z .lists))) ∙ sym (tasks-rest s v (z .tasks))) i;
+      tasks = (ap (padded 7 noTask) (tasks-back ts (tasks-ok s v) (tasks-each s v Wide (λ i h. z .lists i (omega (arith, v .count .1))))) ∙ sym (tasks-rest s v (z .tasks))) i;
     }

@@ -48,10 +48,14 @@ module _ (s : Set) (v : Valid s) where
   pub task-count : length (take (s .count) (s .tasks)) ≡ s .count
   task-count = length-take-le (s .count) (s .tasks) counted
 
+  -- what holds of each task by its number
+  pub tasks-each : (P : Task → Type 0) → ((i : ℕ) → i < s .count → P (taskAt s i)) → Each P (take (s .count) (s .tasks))
+  tasks-each P f =
+      Each-from P noTask (take (s .count) (s .tasks))
+      (λ i h. let l : i < s .count = omega (arith, task-count) in subst P (sym (getD-take (s .count) (s .tasks) i noTask l)) (f i l))
+
   pub tasks-ok : Each ValidTask (take (s .count) (s .tasks))
-  tasks-ok =
-      Each-from ValidTask noTask (take (s .count) (s .tasks))
-      (λ i h. let l : i < s .count = omega (arith, task-count) in subst ValidTask (sym (getD-take (s .count) (s .tasks) i noTask l)) (v .tasks i l))
+  tasks-ok = tasks-each ValidTask (v .tasks)
 
   pub tasks-rest : length (s .tasks) ≡ 7 → s .tasks ≡ padded 7 noTask (take (s .count) (s .tasks))
   unfolding padded

@@ -1,8 +1,7 @@
 -- The set that a sheet says, and the sheet that a set has.
-use mathlib.Core.Path.{_≡_}
 use mathlib.Core.Bool.{Bool, true, _&&_, cond}
 use mathlib.Core.List.{List, [], _∷_, _++_, map}
-use Prim.Native.Nat.{ℕ, suc, _+_, _-_, _^_, _<_}
+use Prim.Native.Nat.{ℕ, suc, _+_, _-_, _^_}
 use lib.Dec.{ltb, eqb}
 use lib.ListN.{length, take, replicate}
 use Rattle.tasks.specs.declared.sets.Task.{Task}
@@ -11,7 +10,7 @@ use Rattle.tasks.specs.declared.sets.Tested.{Tested}
 use Rattle.tasks.specs.Lists.{valuesOf, headOr}
 use Rattle.tasks.specs.Refusals.{badRecord, runTimeAboveDeadline, gapBelowDeadline}
 use Rattle.tasks.specs.Sets.{characters, noTask, refuseOr}
-use Rattle.sheet_form.specs.Form.{Values, Line, Sheet, Each, sheetText}
+use Rattle.sheet_form.specs.Form.{Values, Line, Sheet, sheetText}
 
 -- FROM A SHEET TO A SET
 
@@ -83,13 +82,3 @@ sheetOf s = record { name = take (characters (s .name)) (s .name); lines = map l
 -- the one sheet that a set has
 abbrev pub textOf : Set → List ℕ
 textOf s = sheetText (sheetOf s)
-
--- both lists fit 16 bits
-abbrev pub Wide : Task → Type 0
-Wide τ = (τ .runs < 65536) × (τ .gaps < 65536)
-
--- what every set of the code has: 16 bytes of name, seven records, lists of 16 bits
-pub record Sized (s : Set) : Type 0 where
-  pub name : length (s .name) ≡ 16
-  pub tasks : length (s .tasks) ≡ 7
-  pub lists : Each Wide (s .tasks)

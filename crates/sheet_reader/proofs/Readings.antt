@@ -8,14 +8,16 @@ use lib.Dec.{ltb}
 use lib.ListN.{length}
 use borrow.Author.Tests.{ltb-false}
 use Rattle.tasks.specs.declared.refusals.Refusal.{Refusal}
+use Rattle.tasks.specs.declared.sets.Set.{Set}
 use Rattle.tasks.specs.declared.sets.Tested.{Tested}
 use Rattle.tasks.specs.declared.sets.Tested.the-variants.{States, Refused as FailedWith}
 use Rattle.tasks.specs.Refusals.{refusing, sheetTooLong, sheetForm, badRecord}
 use Rattle.tasks.specs.Sets.{testStates, testSet}
-use Rattle.sheet_form.specs.Form.{Line, Sheet, Each, Formed, longest, Member, FaultAt, Form, fits, stops}
+use Rattle.sheet_form.specs.Form.{Line, Each, longest, Member, FaultAt, Form, fits, stops}
 use Rattle.sheet_form.specs.Sets.{rising, setOf, lineFault, lowestLine}
-use Rattle.sheet_form.proofs.Tests.{by-cond}
-use Rattle.sheet_form.proofs.Faults.{lines-tested, lowest-at, not-rising, refused-own}
+use Rattle.tasks.proofs.Valid.{refused-number}
+use Rattle.arena.proofs.Tests.{by-cond}
+use Rattle.sheet_form.proofs.Faults.{lines-tested, lowest-at, not-rising}
 use Rattle.sheet_form.proofs.Places.{form}
 use Rattle.sheet_reader.specs.declared.SheetRead.{SheetRead}
 use Rattle.sheet_reader.specs.declared.ReadAnswer.{ReadAnswer}
@@ -32,7 +34,7 @@ module _ (t : List ℕ) (p : ℕ) where
   -- a sheet's set is refused with 3 to 6, and never with 2
   tested-fault : (m : Member t) (r : Tested) → testSet (setOf (m .sheet)) ≡ r → testedRead (setOf (m .sheet)) r ≡ faultRead p → ⊥
   tested-fault m (States n) e g = let h = ap (λ (x : SheetRead). x .answer) g in let z : _≡_ {A = ℕ} 0 1 = cc in omega arith
-  tested-fault m (FailedWith f) e g = omega (arith, refused-own (m .sheet) (m .formed) f e .0, ap (λ x. saidRead x .number) g)
+  tested-fault m (FailedWith f) e g = omega (arith, refused-number (setOf (m .sheet)) f e .0, ap (λ x. saidRead x .number) g)
 
   formed-fault : (f : Form t) (c : Bool) → ltb longest (length t) ≡ c → cond c longRead (formRead t f) ≡ faultRead p → (length t ≤ longest) × FaultAt t p
   formed-fault f true h e = let z : ⊥ = omega (arith, ap (λ x. saidRead x .number) e) in absurd z
@@ -76,18 +78,18 @@ module _ (f : Refusal) where
       let n : x .number ≡ f .number = ap (λ (y : Refusal). y .number) g in
       (ap refusedWith g, omega arith, omega arith)
 
-  bare-tested : (s : Sheet) → Formed s → (r : Tested) → testSet (setOf s) ≡ r → Bare (testedRead (setOf s) r)
-  bare-tested s h (States n) e g = let z : _≡_ {A = ℕ} 0 1 = cc in absurd (omega arith)
-  bare-tested s h (FailedWith x) e g = let k = refused-own s h x e in bare x (omega arith, omega arith) g
+  bare-tested : (s : Set) (r : Tested) → testSet s ≡ r → Bare (testedRead s r)
+  bare-tested s (States n) e g = let z : _≡_ {A = ℕ} 0 1 = cc in absurd (omega arith)
+  bare-tested s (FailedWith x) e g = let k = refused-number s x e in bare x (omega arith, omega arith) g
 
   bare-formed : (t : List ℕ) (x : Form t) → Bare (formRead t x)
   bare-formed t (stops p d) = bare (record { number = sheetForm; place = p }) (omega arith)
-  bare-formed t (fits m) = bare-tested (m .sheet) (m .formed) (testSet (setOf (m .sheet))) refl
+  bare-formed t (fits m) = bare-tested (setOf (m .sheet)) (testSet (setOf (m .sheet))) refl
 
   pub refused-zeros : (t : List ℕ) → readText t .answer ≡ Refused f → (readText t ≡ refusedWith f) × (1 ≤ f .number) × (f .number ≤ 6)
   unfolding readText
   refused-zeros t =
-      by-cond Bare (ltb longest (length t)) (λ b. bare (record { number = sheetTooLong; place = 0 }) (omega arith)) (λ b. bare-formed t (form t))
+      by-cond Bare (ltb longest (length t)) _ _ (λ b. bare (record { number = sheetTooLong; place = 0 }) (omega arith)) (λ b. bare-formed t (form t))
 
   -- in the paper's terms: zeros for the 45 values of a set
   pub refused-said : (t : List ℕ) → readText t .answer ≡ Refused f → saidRead (readText t) ≡ refusing 45 f

@@ -6,7 +6,7 @@ use lib.ListN.{length, drop}
 use Rattle.tasks.specs.declared.sets.Set.{Set}
 use Rattle.tasks.specs.declared.sets.Tested.{Tested}
 use Rattle.tasks.specs.declared.sets.Tested.the-variants.{States, Refused as FailedWith}
-use Rattle.tasks.specs.Refusals.{Said, answered, refusing, bufferTooShort}
+use Rattle.tasks.specs.Refusals.{Said, answered, refusing, short}
 use Rattle.tasks.specs.Sets.{testSet}
 use Rattle.sheet_form.specs.Sets.{textOf}
 use Rattle.sheet_writer.specs.declared.Wrote.{Wrote}
@@ -25,7 +25,7 @@ leaving w b = record { answer = w; bytes = b }
 abbrev pub placed : List ℕ → List ℕ → Written
 placed t b =
     cond (leb (length t) (length b)) (leaving (Length (length t)) (t ++ drop (length t) b))
-    (leaving (Refused (record { number = bufferTooShort; place = length t })) b)
+    (leaving (Refused (short (length t))) b)
 
 -- the one sheet that a set has, where the set passes its test; else the set's own refusal, and no byte changes
 abbrev pub testedWrite : Set → List ℕ → Tested → Written
