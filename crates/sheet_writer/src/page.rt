@@ -15,7 +15,7 @@ ghost use Rattle.sheet_form.specs.Valid.{TaskOk, Valid};
 ghost use Rattle.sheet_writer.specs.Page.{Puts, valueText};
 
 // One byte.
-fn put(page: &mut [u8; 1024], at: usize, b: u8) -> usize
+pub fn put(page: &mut [u8; 1024], at: usize, b: u8) -> usize
     requires { ⌜ at < 1024 ⌝ }
     ensures { λ r. ⌜ Puts (now (page .entry)) (now (page .exit)) at r (b ∷ []) ⌝ }
 {
@@ -24,7 +24,7 @@ fn put(page: &mut [u8; 1024], at: usize, b: u8) -> usize
 }
 
 // A fixed word.
-fn put_word(page: &mut [u8; 1024], at: usize, w: &[u8]) -> usize
+pub fn put_word(page: &mut [u8; 1024], at: usize, w: &[u8]) -> usize
     requires { ⌜ at + length (now w) ≤ 1024 ⌝ }
     ensures { λ r. ⌜ Puts (now (page .entry)) (now (page .exit)) at r (now (w .entry)) ⌝ }
 {
@@ -102,7 +102,7 @@ fn put_line(page: &mut [u8; 1024], at: usize, t: Task) -> usize
 }
 
 // The name's characters.
-fn put_name(page: &mut [u8; 1024], at: usize, name: [u8; 16]) -> usize
+pub fn put_name(page: &mut [u8; 1024], at: usize, name: [u8; 16]) -> usize
     requires { ⌜ at + 16 ≤ 1024 ⌝ }
     ensures { λ r. ⌜ Puts (now (page .entry)) (now (page .exit)) at r (take (characters name) name) ⌝ }
 {

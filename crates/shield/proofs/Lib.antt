@@ -4,3 +4,4 @@ pub mod WalkTurn
 pub mod FineLaws
 pub mod TestLaws
 pub mod BuildLaws
+pub mod Done
