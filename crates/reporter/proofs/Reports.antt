@@ -1,9 +1,10 @@
 -- The report of what the reader and the builder answered. Assumes nothing.
 use mathlib.Core.Path.{_≡_, sym, ap, ap₂, _∙_, subst}
-use mathlib.Core.Bool.{cond}
+use mathlib.Core.Bool.{Bool, true, false, cond}
 use mathlib.Core.List.{List, [], _++_, append-nil}
 use Prim.Native.Nat.{ℕ, _+_, _/_, _≤_, _<_}
 use native.Mathlib.Omega.{arith}
+use lib.Dec.{ltb}
 use lib.ListN.{length, take, drop, length-append}
 use lib.Seq.{take-at}
 use borrow.Author.Tests.{lt-ltb, le-ltb, le-leb, lt-leb}
@@ -26,9 +27,10 @@ use Rattle.sheet_reader.specs.declared.ReadAnswer.the-variants as Read
 use Rattle.sheet_reader.specs.Reading.{readText}
 use Rattle.sheet_writer.specs.Page.{Puts}
 use Rattle.sheet_writer.proofs.Pages.{puts-as, puts-take}
+use Rattle.reporter.specs.declared.Reported.{Reported}
 use Rattle.reporter.specs.declared.Reported.the-variants.{Length, Refused}
 use Rattle.report_lines.specs.Lines.{rowLines, rowsText, refusedLine}
-use Rattle.reporter.specs.Report.{Told, builtText, toldBuilt, toldRead, toldOf, room, leaving, placed, reportOf, Tells}
+use Rattle.reporter.specs.Report.{Told, builtText, toldBuilt, toldRead, toldOf, room, Left, leaving, placed, reportOf, Tells}
 
 pub shield-length : (s : Set) → length (shieldTable s) ≡ statesOf s
 shield-length s = list-length (λ i. entryOf (shield (arenaOf s) i)) (statesOf s)
@@ -97,3 +99,20 @@ module _ (sheet t w o : List ℕ) where
           let a = k .table in
           let b = k .work in
           cc
+
+  -- the report's length is within the output
+  pub report-within : (r : Reported) (t′ w′ o′ : List ℕ) (n : ℕ) → leaving r t′ w′ o′ ≡ reportOf sheet t w o → r ≡ Length n → n ≤ length o′
+  unfolding reportOf
+  report-within r t′ w′ o′ n e a = go (ltb (length o) room) e
+    where
+      go : (b : Bool) → leaving r t′ w′ o′ ≡ cond b (leaving (Refused (record { number = bufferTooShort; place = room })) t w o) (placed (toldOf sheet t w) o)
+          → n ≤ length o′
+      go true q =
+          let l : Length n ≡ Refused (record { number = bufferTooShort; place = room }) = sym a ∙ ap (λ (y : Left). y .answer) q in
+          let z : _≡_ {A = ℕ} 0 1 = cc in
+          absurd (omega arith)
+      go false q =
+          let x = toldOf sheet t w .text in
+          let l : Length n ≡ Length (length x) = sym a ∙ ap (λ (y : Left). y .answer) q in
+          let m : n ≡ length x = cc in
+          omega (arith, ap (λ (y : Left). length (y .output)) q, length-append x (drop (length x) o))
