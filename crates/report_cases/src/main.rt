@@ -61,7 +61,7 @@ fn show_small(label: &[u8], sheet: &[u8]) {
     show(label, sheet, &mut table, &mut work, &mut output);
 }
 
-// One state and many, a last row that is shorter, 64 states and 72, and entries of three digits.
+// Rows: two whole ones, one that is short, and a last one that is.
 fn row_cases() {
     show_small(b"two tasks", &PAIR);
     show_small(b"one row", b"set ONE\nhard 1 1 1\n");
@@ -69,28 +69,43 @@ fn row_cases() {
         b"a shorter last row",
         b"set EXAMPLE-1\nhard 2 1 3\nsoft 2 1,2 3\n",
     );
+}
+
+// At most 64 states, and more.
+fn state_cases() {
     show_small(
         b"64 states",
         b"set SWEEP\nhard 2 1 2\nhard 3 1 4\nsoft 1 1 1\n",
     );
     show_small(
-        b"64 states, six tasks",
-        b"set SIXTEEN-LETTERS-\nsoft 1 1 1\nsoft 1 1 1\nsoft 1 1 1\nsoft 1 1 1\nsoft 1 1 1\nsoft 1 1 1\n",
+        b"72 states",
+        b"set SIXTEEN-LETTERS-\nhard 2 1 3\nsoft 3 2 4\n",
     );
-    show_small(b"72 states", b"set A\nhard 2 1 3\nsoft 3 2 4\n");
+}
+
+// Entries of three digits: tasks 6 and 7.
+fn entry_cases() {
     show_small(
-        b"128 states",
+        b"six tasks",
+        b"set SIX\nsoft 1 1 1\nsoft 1 1 1\nsoft 1 1 1\nsoft 1 1 1\nsoft 1 1 1\nsoft 1 1 1\n",
+    );
+    show_small(
+        b"seven tasks",
         b"set SEVEN\nsoft 1 1 1\nsoft 1 1 1\nsoft 1 1 1\nsoft 1 1 1\nsoft 1 1 1\nsoft 1 1 1\nsoft 1 1 1\n",
     );
 }
 
-// Each refusal of a sheet, and of a set that has no safe schedule.
-fn refused_cases() {
+// Refusals of a text: 1 and 2.
+fn form_cases() {
     show_small(b"1,025 bytes", &[b'A'; 1025]);
     show_small(b"1,024 bytes", &[b'A'; 1024]);
     show_small(b"no bytes", b"");
     show_small(b"no such deadline", b"set PAIR\nhard 17");
     show_small(b"no last LF", b"set A\nhard 1 1 1");
+}
+
+// Refusals of a set: 3, 4, 5, 6 and 8.
+fn set_cases() {
     show_small(b"list not rising", b"set A\nhard 1 1 1\nhard 2 2,1 2\n");
     show_small(
         b"run time above deadline",
@@ -167,7 +182,10 @@ fn large_cases() {
 
 fn main() {
     row_cases();
-    refused_cases();
+    state_cases();
+    entry_cases();
+    form_cases();
+    set_cases();
     output_cases();
     buffer_cases();
     large_cases();

@@ -1,5 +1,6 @@
 -- A number in base ten, and how many digits it has. Assumes nothing.
 use mathlib.Core.Path.{_≡_, sym, ap, ap₂, _∙_, subst}
+use mathlib.Core.Logic.{⊎-elim}
 use mathlib.Core.Bool.{cond}
 use mathlib.Core.List.{List, [], _∷_, _++_}
 use Prim.Native.Nat.{ℕ, zero, suc, _+_, _-_, _*_, _/_, _%_, _^_, _≤_, _<_}
@@ -9,7 +10,9 @@ use lib.Dec.{ltb}
 use lib.ListN.{length, length-append}
 use borrow.Author.Tests.{lt-ltb, le-ltb}
 use Rattle.io.specs.Digits.{glyph, digits, Fewest}
-use Rattle.sheet_form.proofs.Tests.{by-cond}
+use Rattle.sheet_form.specs.Form.{decimal}
+use Rattle.sheet_form.proofs.Tests.{by-cond, below}
+use Rattle.sheet_form.proofs.Shown.{decimal-low, decimal-high}
 use Rattle.report_lines.specs.Lines.{digitsTo, numberText, field}
 
 -- a number below 10 is its digit, and any other is that of its tens and its last digit
@@ -78,3 +81,16 @@ number-length k n h = digits-length k (suc n) n h
 pub field-length : (w : List ℕ) (k n : ℕ) → n < 10 ^ suc k → length (field w n) ≤ length w + suc k
 unfolding field
 field-length w k n h = omega (arith, length-append w (numberText n), number-length k n h)
+
+-- a number below 100 is written as in a sheet
+pub sheet-number : (v : ℕ) → v < 100 → numberText v ≡ decimal v
+unfolding numberText
+sheet-number v h =
+    ⊎-elim (λ l. digits-one v v l ∙ sym (decimal-low v l))
+    (λ l. digits-more v v l ∙ ap (λ x. x ++ ((48 + v % 10) ∷ [])) (tens-digit l) ∙ sym (decimal-high v l)) (below v 10)
+  where
+    tens-digit : 10 ≤ v → digitsTo v (v / 10) ≡ (48 + v / 10) ∷ []
+    tens-digit l = ap (λ k. digitsTo k (v / 10)) (sym e) ∙ digits-one (v - 1) (v / 10) (omega arith)
+      where
+        e : suc (v - 1) ≡ v
+        e = omega arith

@@ -6,9 +6,9 @@ ghost use mathlib.Core.Path.{_≡_};
 ghost use Prim.Native.Nat.{_+_, _-_, _*_, _/_, _≤_, _<_};
 ghost use lib.ListN.{length};
 ghost use Rattle.tasks.specs.Sets.{statesOf, Passed};
-ghost use Rattle.sheet_form.specs.Form.{each, space};
+ghost use Rattle.sheet_form.specs.Form.{each};
 ghost use Rattle.sheet_writer.specs.Page.{Puts};
-ghost use Rattle.report_lines.specs.Lines.{numberText, field, setLine, shieldLine, rowLine, rowLines, refusedLine};
+ghost use Rattle.report_lines.specs.Lines.{bytes, numberText, field, setLine, shieldLine, rowLine, rowLines, refusedLine};
 
 // A number, in base ten.
 fn put_number(text: &mut [u8; 1024], at: usize, n: u64) -> usize
@@ -60,7 +60,7 @@ pub fn put_shield_line(text: &mut [u8; 1024], at: usize, safe: u32, rounds: u32,
 // Entries, each after a space.
 fn put_entries(text: &mut [u8; 1024], at: usize, entries: &[u8]) -> usize
     requires { ⌜ at + 4 * length (now entries) + 21 ≤ 1024 ⌝ }
-    ensures { λ r. ⌜ Puts (now (text .entry)) (now (text .exit)) at r (each (field space) (now (entries .entry))) ⌝ }
+    ensures { λ r. ⌜ Puts (now (text .entry)) (now (text .exit)) at r (each (field (bytes " ")) (now (entries .entry))) ⌝ }
     ensures short { λ r. ⌜ r ≤ at + 4 * length (now (entries .entry)) ⌝ }
 {
     let mut j = at;

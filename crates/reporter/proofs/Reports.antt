@@ -84,12 +84,13 @@ module _ (sheet t w o : List ℕ) where
   unfolding reportOf
   report-short h = sym (ap (λ b. cond b (leaving (Refused (record { number = bufferTooShort; place = room })) t w o) (placed (toldOf sheet t w) o)) (lt-ltb (length o) room h))
 
+  pub report-room : room ≤ length o → reportOf sheet t w o ≡ placed (toldOf sheet t w) o
+  unfolding reportOf
+  report-room h = ap (λ b. cond b (leaving (Refused (record { number = bufferTooShort; place = room })) t w o) (placed (toldOf sheet t w) o)) (le-ltb (length o) room h)
+
   pub report-fits : (p q : List ℕ) (n : ℕ) (t′ w′ o′ : List ℕ) → room ≤ length o → room ≤ length p → Tells p q n t′ w′ (toldOf sheet t w)
       → o′ ≡ take n q ++ drop n o → leaving (Length n) t′ w′ o′ ≡ reportOf sheet t w o
-  unfolding reportOf
-  report-fits p q n t′ w′ o′ h l k e =
-      same (toldOf sheet t w) k
-      ∙ sym (ap (λ b. cond b (leaving (Refused (record { number = bufferTooShort; place = room })) t w o) (placed (toldOf sheet t w) o)) (le-ltb (length o) room h))
+  report-fits p q n t′ w′ o′ h l k e = same (toldOf sheet t w) k ∙ sym (report-room h)
     where
       same : (x : Told) → Tells p q n t′ w′ x → leaving (Length n) t′ w′ o′ ≡ placed x o
       same x k =

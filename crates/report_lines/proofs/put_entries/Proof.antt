@@ -7,17 +7,17 @@ use native.Mathlib.Omega.{arith}
 use lib.ListN.{length, take, getD}
 use lib.Seq.{take-suc, take-all}
 use borrow.Author.Needs.{needs}
-use Rattle.sheet_form.specs.Form.{each, space}
+use Rattle.sheet_form.specs.Form.{each}
 use Rattle.sheet_form.proofs.Tests.{each-snoc}
 use Rattle.sheet_writer.specs.Page.{Puts}
 use Rattle.sheet_writer.proofs.Pages.{puts-none, puts-then, puts-as}
-use Rattle.report_lines.specs.Lines.{field}
+use Rattle.report_lines.specs.Lines.{bytes, field}
 use Rattle.report_lines.proofs.Numbers.{field-length}
 use Rattle.report_lines.proofs.put_entries.Statement.{statement}
 use Rattle.report_lines.proofs.put_entries.Tie as tie
 
 abbrev Inv-loop : tie.InvT-loop
-Inv-loop text₀ at entries j₀ i₀ t6 text j i = (i ≤ length entries) × (j ≤ at + 4 * i) × Puts text₀ text at j (each (field space) (take i entries))
+Inv-loop text₀ at entries j₀ i₀ t6 text j i = (i ≤ length entries) × (j ≤ at + 4 * i) × Puts text₀ text at j (each (field (bytes " ")) (take i entries))
 
 abbrev μ-loop : tie.MeasureT-loop
 μ-loop text₀ at entries j₀ i₀ t6 text j i = length entries - i
@@ -50,14 +50,14 @@ loop-again c =
     let h : l .i < length w = c .before .before .before .before .loop-test .taken in
     let x : getD w (l .i) 0 < 10 ^ 3 = omega (arith, c .before .shared-slice-known2 .given (l .i)) in
     let e = c .put-field .ensures .0 in
-    let s : each (field space) (take (l .i + 1) w) ≡ each (field space) (take (l .i) w) ++ field space (getD w (l .i) 0) = rw (add-one, take-suc w (l .i) 0 h, each-snoc) refl in
-    (omega arith, omega (arith, e .next, field-length space 2 (getD w (l .i) 0) x), puts-as (puts-then (l .inv .2) e) (sym s))
+    let s : each (field (bytes " ")) (take (l .i + 1) w) ≡ each (field (bytes " ")) (take (l .i) w) ++ field (bytes " ") (getD w (l .i) 0) = rw (add-one, take-suc w (l .i) 0 h, each-snoc) refl in
+    (omega arith, omega (arith, e .next, field-length (bytes " ") 2 (getD w (l .i) 0) x), puts-as (puts-then (l .inv .2) e) (sym s))
 
 returns : tie.Need-returns Inv-loop μ-loop
 returns c =
     let l = c .before .loop in
     let w = c .before .before .before .args .entries .now in
-    (puts-as (l .inv .2) (ap (each (field space)) (take-all (l .i) w (c .loop-test .left))), omega arith)
+    (puts-as (l .inv .2) (ap (each (field (bytes " "))) (take-all (l .i) w (c .loop-test .left))), omega arith)
 
 pub put-entries-spec : {M : Type 1} → statement M
 put-entries-spec =

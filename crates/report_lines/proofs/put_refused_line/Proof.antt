@@ -3,8 +3,7 @@ use Prim.Native.Nat.{_<_, _^_}
 use native.Mathlib.Omega.{arith}
 use borrow.Author.Needs.{needs}
 use Rattle.sheet_writer.proofs.Pages.{puts-then}
-use Rattle.sheet_form.specs.Form.{space}
-use Rattle.report_lines.specs.Lines.{refusedText, refusedLine}
+use Rattle.report_lines.specs.Lines.{bytes, refusedLine}
 use Rattle.report_lines.proofs.Numbers.{field-length}
 use Rattle.report_lines.proofs.put_refused_line.Statement.{statement}
 use Rattle.report_lines.proofs.put_refused_line.Tie as tie
@@ -38,7 +37,7 @@ returns c =
     let f = c .before .before .before .before .before .before .before .before .before .before .args .f in
     let n : f .number < 10 ^ 3 = search needs in
     let p : f .place < 10 ^ 10 = search needs in
-    (puts-then (puts-then a b) (c .put .ensures), omega (arith, a .next, b .next, c .put .ensures .next, field-length refusedText 2 (f .number) n, field-length space 9 (f .place) p))
+    (puts-then (puts-then a b) (c .put .ensures), omega (arith, a .next, b .next, c .put .ensures .next, field-length (bytes "refused ") 2 (f .number) n, field-length (bytes " ") 9 (f .place) p))
 
 pub put-refused-line-spec : {M : Type 1} → statement M
 put-refused-line-spec =

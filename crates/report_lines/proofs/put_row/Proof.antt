@@ -2,7 +2,7 @@
 use native.Mathlib.Omega.{arith}
 use borrow.Author.Needs.{needs}
 use Rattle.sheet_writer.proofs.Pages.{puts-then}
-use Rattle.report_lines.specs.Lines.{rowText, rowLine}
+use Rattle.report_lines.specs.Lines.{bytes, rowLine}
 use Rattle.report_lines.proofs.Numbers.{field-length}
 use Rattle.report_lines.proofs.put_row.Statement.{statement}
 use Rattle.report_lines.proofs.put_row.Tie as tie
@@ -25,7 +25,7 @@ returns c =
     let a = c .before .before .before .before .put-field .ensures .0 in
     let b = c .before .before .put-entries .ensures in
     let p = c .before .before .before .before .before .before .before .before .pre in
-    (puts-then (puts-then a (b .0)) (c .put .ensures), omega (arith, a .next, b .1, c .put .ensures .next, field-length rowText 1 (c .before .before .before .before .before .before .before .before .args .first) (p .1)))
+    (puts-then (puts-then a (b .0)) (c .put .ensures), omega (arith, a .next, b .1, c .put .ensures .next, field-length (bytes "row ") 1 (c .before .before .before .before .before .before .before .before .args .first) (p .1)))
 
 pub put-row-spec : {M : Type 1} → statement M
 put-row-spec =

@@ -7,7 +7,7 @@ use borrow.Author.Needs.{needs}
 use Rattle.tasks.specs.Sets.{characters, statesOf}
 use Rattle.tasks.proofs.Valid.{passed-valid}
 use Rattle.sheet_writer.proofs.Pages.{puts-then, puts-as}
-use Rattle.report_lines.specs.Lines.{tasksText, statesText, field, setLine}
+use Rattle.report_lines.specs.Lines.{bytes, field, setLine}
 use Rattle.report_lines.proofs.Numbers.{field-length}
 use Rattle.report_lines.proofs.put_set_line.Statement.{statement}
 use Rattle.report_lines.proofs.put_set_line.Tie as tie
@@ -55,10 +55,10 @@ returns c =
     let a = c .before .before .before .before .before .before .before .before .before .before .before .put-word .ensures in
     let b = c .before .before .before .before .before .before .before .before .before .put-name .ensures in
     let d = c .before .before .before .before .before .put-field .ensures .0 in
-    let e = puts-as (c .before .before .put-field2 .ensures .0) (ap (field statesText) (c .before .before .before .before .before .before .before .before .before .before .before .before .before .before .before .pre .1)) in
+    let e = puts-as (c .before .before .put-field2 .ensures .0) (ap (field (bytes " states ")) (c .before .before .before .before .before .before .before .before .before .before .before .before .before .before .before .pre .1)) in
     let s = c .before .before .before .before .before .before .before .before .before .before .before .before .before .before .before .args .set in
     let v = passed-valid s (c .before .before .before .before .before .before .before .before .before .before .before .before .before .before .before .pre .0) in
-    (puts-then (puts-then (puts-then (puts-then a b) d) e) (c .put .ensures), omega (arith, name-short (c .before .before .before .before .before .before .before .before .before), d .next, e .next, c .put .ensures .next, field-length tasksText 0 (s .count) (omega (arith, v .count)), field-length statesText 4 (statesOf s) (omega (arith, v .states))))
+    (puts-then (puts-then (puts-then (puts-then a b) d) e) (c .put .ensures), omega (arith, name-short (c .before .before .before .before .before .before .before .before .before), d .next, e .next, c .put .ensures .next, field-length (bytes " tasks ") 0 (s .count) (omega (arith, v .count)), field-length (bytes " states ") 4 (statesOf s) (omega (arith, v .states))))
 
 pub put-set-line-spec : {M : Type 1} → statement M
 put-set-line-spec =

@@ -3,7 +3,7 @@ use Prim.Native.Nat.{_<_, _^_}
 use native.Mathlib.Omega.{arith}
 use borrow.Author.Needs.{needs}
 use Rattle.sheet_writer.proofs.Pages.{puts-then}
-use Rattle.report_lines.specs.Lines.{shieldText, roundsText, startText, shieldLine}
+use Rattle.report_lines.specs.Lines.{bytes, shieldLine}
 use Rattle.report_lines.proofs.Numbers.{field-length}
 use Rattle.report_lines.proofs.put_shield_line.Statement.{statement}
 use Rattle.report_lines.proofs.put_shield_line.Tie as tie
@@ -39,7 +39,7 @@ returns c =
     let x : s .safe < 10 ^ 5 = search needs in
     let y : s .rounds < 10 ^ 5 = search needs in
     let z : s .start < 10 ^ 3 = search needs in
-    (puts-then (puts-then (puts-then a b) d) (c .put .ensures), omega (arith, a .next, b .next, d .next, c .put .ensures .next, field-length shieldText 4 (s .safe) x, field-length roundsText 4 (s .rounds) y, field-length startText 2 (s .start) z))
+    (puts-then (puts-then (puts-then a b) d) (c .put .ensures), omega (arith, a .next, b .next, d .next, c .put .ensures .next, field-length (bytes "shield ") 4 (s .safe) x, field-length (bytes " rounds ") 4 (s .rounds) y, field-length (bytes " start ") 2 (s .start) z))
 
 pub put-shield-line-spec : {M : Type 1} → statement M
 put-shield-line-spec =
