@@ -57,6 +57,14 @@ beq-fails true false t h = absurd (h tt)
 beq-fails false true t h = (tt, tt)
 beq-fails false false t h = absurd t
 
+pub and-true : (b : Bool) → (b && true) ≡ b
+and-true true = refl
+and-true false = refl
+
+pub nor : (a b : Bool) → T (not (a || b)) → T (not a) × T (not b)
+nor true b t = absurd t
+nor false b t = (tt, t)
+
 pub and-left : (a b : Bool) → T (a && b) → T a
 and-left true b t = tt
 and-left false b t = absurd t
@@ -93,8 +101,8 @@ pub imp-by : (a b : Bool) → (T a → T b) → T (imp a b)
 imp-by true b h = h tt
 imp-by false b h = tt
 
--- a number chosen by a test
-pub by-cond : (P : ℕ → Type 0) (b : Bool) (x y : ℕ) → (T b → P x) → (T (not b) → P y) → P (cond b x y)
+-- a branch on a test
+pub by-cond : {A : Type 0} (P : A → Type 0) (b : Bool) (x y : A) → (T b → P x) → (T (not b) → P y) → P (cond b x y)
 by-cond P true x y p q = p tt
 by-cond P false x y p q = q tt
 
@@ -229,3 +237,17 @@ module _ (f : ℕ → Bool) where
   -- among the numbers below a bound
   pub first-below : (n : ℕ) → T (anyBelow n f) → T (f (first f n 0))
   first-below n t = let w = anyBelow-at n f t in first-at n 0 (w .0) (omega arith) (omega (arith, w .1)) (w .2)
+
+  -- a first below the end passes, and where none passes there is none below the end
+  pub first-hit : (n k : ℕ) → first f n k < k + n → T (f (first f n k))
+  first-hit zero k = λ h. let z : ⊥ = omega arith in absurd z
+  first-hit (suc n) k = by-cond (λ m. m < k + suc n → T (f m)) (f k) k (first f n (suc k)) (λ t h. t) (λ _ h. first-hit n (suc k) (omega arith))
+
+  pub first-none : (n : ℕ) → ((j : ℕ) → j < n → f j ≡ false) → n ≤ first f n 0
+  first-none n h = ⊎-elim (λ l. absurd (subst T (h (first f n 0) l) (first-hit n 0 (omega arith)))) (λ l. l) (lt-or-le (first f n 0) n)
+
+-- where two tests agree in range, so do their firsts
+pub first-cong : (f g : ℕ → Bool) (n k : ℕ) → ((j : ℕ) → k ≤ j → j < k + n → f j ≡ g j) → first f n k ≡ first g n k
+first-cong f g zero k h = refl
+first-cong f g (suc n) k h =
+    ap₂ (λ (b : Bool) (m : ℕ). cond b k m) (h k (omega arith) (omega arith)) (first-cong f g n (suc k) (λ j p q. h j (omega arith) (omega arith)))

@@ -1,40 +1,26 @@
 // Worked cases of the writer and the opener, a line each.
-use libc::STDOUT_FILENO;
+use cases::lines::put;
+use cases::lines::put_bytes;
+use cases::lines::put_number;
+use cases::lines::put_refusal;
+use cases::sets::V1;
+use cases::sets::V2;
+use cases::sets::V3;
+use cases::sets::V16;
+use cases::sets::example;
+use cases::sets::hard;
+use cases::sets::named;
+use cases::sets::one;
+use cases::sets::pair;
+use cases::sets::soft;
 use shield::builder;
 use table_file::opener;
 use table_file::opener::Opened;
 use table_file::writer;
 use table_file::writer::Written;
-use tasks::refusals::Refusal;
 use tasks::sets::Set;
-use tasks::sets::Task;
-
-// A list of one value is named after it.
-const V1: u16 = 1;
-
-const V2: u16 = 2;
-
-const V3: u16 = 4;
-
-const V4: u16 = 8;
-
-const V16: u16 = 32768;
 
 const PAIR_TABLE: [u8; 16] = [6, 5, 2, 5, 3, 1, 2, 1, 4, 4, 0, 4, 3, 1, 2, 1];
-
-fn put(text: &[u8]) {
-    io::write_all(STDOUT_FILENO, text);
-}
-
-fn put_number(text: &[u8], n: u64) {
-    put(text);
-    io::print_decimal(STDOUT_FILENO, n);
-}
-
-fn put_refusal(f: Refusal) {
-    put_number(b" refused ", f.number as u64);
-    put_number(b" place ", f.place as u64);
-}
 
 fn put_written(w: Written) {
     match w {
@@ -47,18 +33,6 @@ fn put_opened(o: Opened) {
     match o {
         Opened::Opens => put(b" opens"),
         Opened::Refused(f) => put_refusal(f),
-    }
-}
-
-fn put_byte(b: u8) {
-    put_number(b" ", b as u64);
-}
-
-fn put_bytes(buf: &[u8]) {
-    let mut i = 0;
-    while i < buf.len() {
-        put_byte(buf[i]);
-        i += 1;
     }
 }
 
@@ -124,54 +98,16 @@ fn show_cut(s: Set, file: &[u8], n: usize) {
     }
 }
 
-fn task(kind: u8, deadline: u8, runs: u16, gaps: u16) -> Task {
-    Task {
-        kind: kind,
-        deadline: deadline,
-        runs: runs,
-        gaps: gaps,
-    }
-}
-
-fn two(name: [u8; 16], a: Task, b: Task) -> Set {
-    let z = task(0, 0, 0, 0);
-    Set {
-        name: name,
-        count: 2,
-        tasks: [a, b, z, z, z, z, z],
-    }
-}
-
-fn one(name: [u8; 16], t: Task) -> Set {
-    let z = task(0, 0, 0, 0);
-    Set {
-        name: name,
-        count: 1,
-        tasks: [t, z, z, z, z, z, z],
-    }
-}
-
-fn pair() -> Set {
-    let t = task(1, 2, V1, V2);
-    two(*b"PAIR\0\0\0\0\0\0\0\0\0\0\0\0", t, t)
-}
-
-fn example() -> Set {
-    two(
-        *b"EXAMPLE-1\0\0\0\0\0\0\0",
-        task(1, 2, V1, V3),
-        task(0, 2, V1 + V2, V3),
-    )
-}
-
 fn tight(name: [u8; 16]) -> Set {
-    one(name, task(1, 1, V1, V1))
+    named(name, one(hard(1, V1, V1)))
 }
 
-// 6,400 states: S and both lists have a high byte.
+// 272 states: S and both lists have a high byte.
 fn wide() -> Set {
-    let t = task(0, 4, V1 + V4, V16);
-    two(*b"WIDE\0\0\0\0\0\0\0\0\0\0\0\0", t, t)
+    named(
+        *b"WIDE\0\0\0\0\0\0\0\0\0\0\0\0",
+        one(soft(16, V1 + V16, V16)),
+    )
 }
 
 // PAIR, whole and with bytes beyond the file and beyond the table.
@@ -200,7 +136,7 @@ fn refused_written() {
     show_write(b"PAIR, 53 bytes", pair(), &PAIR_TABLE, &mut [170; 53]);
     show_write(
         b"hard 2 3 3, no bytes",
-        one(*b"LATE\0\0\0\0\0\0\0\0\0\0\0\0", task(1, 2, V3, V3)),
+        named(*b"LATE\0\0\0\0\0\0\0\0\0\0\0\0", one(hard(2, V3, V3))),
         &[1; 0],
         &mut [170; 3],
     );
@@ -239,10 +175,10 @@ fn others_open(name: [u8; 16], file: &[u8]) {
     show_labelled(b"16th character", tight(*b"ABCDEFGHIJKLMNOQ"), file);
     show_labelled(b"9th character", tight(*b"ABCDEFGHJJKLMNOP"), file);
     show_labelled(b"a name of 8", tight(*b"ABCDEFGH\0\0\0\0\0\0\0\0"), file);
-    show_labelled(b"soft 1 1 1", one(name, task(0, 1, V1, V1)), file);
-    show_labelled(b"hard 1 1 2", one(name, task(1, 1, V1, V2)), file);
-    show_labelled(b"hard 1 1 16", one(name, task(1, 1, V1, V16)), file);
-    show_labelled(b"hard 2 2 2", one(name, task(1, 2, V2, V2)), file);
+    show_labelled(b"soft 1 1 1", named(name, one(soft(1, V1, V1))), file);
+    show_labelled(b"hard 1 1 2", named(name, one(hard(1, V1, V2))), file);
+    show_labelled(b"hard 1 1 16", named(name, one(hard(1, V1, V16))), file);
+    show_labelled(b"hard 2 2 2", named(name, one(hard(2, V2, V2))), file);
     show_labelled(b"PAIR", pair(), file);
 }
 
@@ -260,39 +196,30 @@ fn refused_opened() {
     show_labelled(b"five bytes", pair(), b"SHT\x01\0");
     show_labelled(
         b"hard 2 3 3, no bytes",
-        one(*b"LATE\0\0\0\0\0\0\0\0\0\0\0\0", task(1, 2, V3, V3)),
+        named(*b"LATE\0\0\0\0\0\0\0\0\0\0\0\0", one(hard(2, V3, V3))),
         &[0; 0],
     );
     let mut longer = [170; 55];
     let _ = writer::write(pair(), &PAIR_TABLE, &mut longer);
+    longer[38] = 0;
+    show_labelled(b"a longer file, the start's entry 0", pair(), &longer);
     longer[37] = 1;
-    show_labelled(b"a longer file, the last byte of S", pair(), &longer);
+    show_labelled(b"the same, and the last byte of S", pair(), &longer);
 }
 
 // The built tables of the example, and of a set with high bytes.
 fn built_cases() {
-    let mut table = [7; 54];
-    let mut work = [9; 54];
-    let mut file = [170; 92];
-    let _ = builder::build(example(), &mut table, &mut work);
-    show_write(b"hard 2 1 3, soft 2 1,2 3", example(), &table, &mut file);
-    show_labelled(b"hard 2 1 3, soft 2 1,2 3", example(), &file);
+    show_built(b"hard 2 1 3, soft 2 1,2 3", example(), &mut [170; 92]);
+    show_built(b"soft 16 1,16 16", wide(), &mut [170; 304]);
 }
 
-fn wide_cases() {
-    let mut table = [7; 6400];
-    let mut work = [9; 6400];
-    let mut file = [170; 6438];
-    let _ = builder::build(wide(), &mut table, &mut work);
-    put(b"write two of soft 4 1,4 16:");
-    put_written(writer::write(wide(), &table, &mut file));
-    put(b" header");
-    put_bytes(&file[0..38]);
-    put(b"\n");
-    put(b"open two of soft 4 1,4 16:");
-    put_opened(opener::verdict(wide(), &file));
-    put_number(b" part of ", opener::open(wide(), &file).len() as u64);
-    put(b"\n");
+// What is written of the built table, and what is opened of that.
+fn show_built(label: &[u8], s: Set, file: &mut [u8]) {
+    let mut table = [7; 272];
+    let mut work = [9; 272];
+    let _ = builder::build(s, &mut table, &mut work);
+    show_write(label, s, &table, file);
+    show_labelled(label, s, file);
 }
 
 fn main() {
@@ -302,5 +229,4 @@ fn main() {
     tight_damaged();
     refused_opened();
     built_cases();
-    wide_cases();
 }

@@ -37,13 +37,13 @@ decision list time h = pick (eqb time (longestOf list)) refl
     pick true e = (true, subst (λ (v : ℕ). T (listed list v)) (sym (eqb→eq time (longestOf list) (subst T (sym e) tt))) (longest-listed list h))
     pick false e = (false, tt)
 
--- the generator has a move for a task in range, which is run only if it is runnable
-every-flag : (finishes arrives : Bool) → flagged finishes arrives ∈ flags
+pub every-flag : (finishes arrives : Bool) → flagged finishes arrives ∈ flags
 every-flag true true = List·Memᴰ·head refl
 every-flag true false = List·Memᴰ·tail (List·Memᴰ·head refl)
 every-flag false true = List·Memᴰ·tail (List·Memᴰ·tail (List·Memᴰ·head refl))
 every-flag false false = List·Memᴰ·tail (List·Memᴰ·tail (List·Memᴰ·tail (List·Memᴰ·head refl)))
 
+-- the generator has a move for a task in range, which is run only with its job in hand
 pub moves-some : (τ : Task) → ValidTask τ → (run : Bool) (x : TaskState) → T (inRange τ x) → (T run → T (inHand (x .job))) → Some (movesOf τ run x)
 unfolding can
 moves-some τ v run x r h =

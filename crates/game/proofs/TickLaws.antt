@@ -10,19 +10,19 @@ use lib.Dec.{T, eqb, leb, ltb, ltb→lt, eqb→eq}
 use lib.ListN.{length}
 use borrow.Author.Tests.{lt-ltb, le-ltb, eq-eqb, ne-eqb}
 use Rattle.arena.specs.Tests.{all, imp}
-use Rattle.arena.proofs.Tests.{and-left, and-right}
+use Rattle.arena.proofs.Tests.{and-true, and-left, and-right}
 use Rattle.tasks.specs.declared.sets.Task.{Task}
 use Rattle.tasks.specs.Lists.{lastOr, valuesOf, longestOf, lengthOf, listed}
 use Rattle.tasks.specs.Sets.{hard, cmax, amax, localsOf}
 use Rattle.tasks.proofs.ListLaws.{longest-listed}
 use Rattle.game.specs.declared.states.Job.the-variants.{Empty, InHand}
 use Rattle.game.specs.declared.states.TaskState.{TaskState}
-use Rattle.game.specs.declared.ticks.Ticked.the-variants.{Impossible, Missed, Next}
 use Rattle.game.specs.declared.ticks.Moves.{Moves}
+use Rattle.game.specs.declared.ticks.Ticked.the-variants.{Impossible, Missed, Next}
 use Rattle.game.specs.States.{slots, localOf, jobOf, stateOf, givenFits, inRange}
 use Rattle.game.specs.Ticks.{Flags, inHand, canFinish, canArrive, can, jobAfter, late, arrived, tickOf}
 use Rattle.game.specs.Game.{those, flags}
-use Rattle.game.specs.Walk.{lands, everyTick, every}
+use Rattle.game.specs.Walk.{lands, everyTick, every, summary}
 use Rattle.game.proofs.StateLaws.{slots-pos, given-job, age-lt, state-range}
 
 -- what can be decided is decided in range
@@ -65,10 +65,6 @@ not-last v n h =
     ⊎-elim (λ e. le-ltb v n (omega arith) ∙ sym (ap not (eq-eqb v n e))) (λ l. lt-ltb v n l ∙ sym (ap not (ne-eqb v n (λ e. omega arith)))) (eq-or-lt-of-le h)
 
 -- tests in another order
-and-true : (b : Bool) → (b && true) ≡ b
-and-true true = refl
-and-true false = refl
-
 and-false : (b : Bool) → (b && false) ≡ false
 and-false true = refl
 and-false false = refl
@@ -129,31 +125,6 @@ module _ (τ : Task) (p : ℕ → Bool) where
       one f = let job = jobAfter run (f .finishes) (x .job) in
           decided (inRange τ x) (canFinish τ run (x .job) (f .finishes) && canArrive τ (x .age) (f .arrives)) (late τ (x .age + 1) job) (arrived (f .arrives) (x .age) job) t
 
--- what the moves of a task at a local number come to
-abbrev pub summary : Task → Bool → ℕ → Moves
-summary τ true l =
-    let a = l / slots τ + 1 in
-    let g = l % slots τ in
-    record {
-      misses = (hard τ && leb (τ .deadline) a) && ltb (g + 1) (cmax τ);
-      comes = listed (τ .gaps) a;
-      ends = listed (τ .runs) (g + 1) && ltb a (amax τ);
-      ended = l + slots τ + (cmax τ - g);
-      stays = ltb (g + 1) (cmax τ) && ltb a (amax τ);
-      stayed = l + slots τ + 1;
-    }
-summary τ false l =
-    let a = l / slots τ + 1 in
-    let g = l % slots τ in
-    record {
-      misses = (hard τ && leb (τ .deadline) a) && ltb g (cmax τ);
-      comes = listed (τ .gaps) a;
-      ends = false;
-      ended = 0;
-      stays = ltb a (amax τ);
-      stayed = l + slots τ;
-    }
-
 in-hand : (b : Bool) (g : ℕ) → inHand (cond b (InHand g) Empty) ≡ b
 in-hand true g = refl
 in-hand false g = refl
@@ -206,7 +177,12 @@ module _ (τ : Task) (l : ℕ) (h : l < localsOf τ) (p : ℕ → Bool) where
       (run-ways (hard τ && leb (τ .deadline) aged) (listed (τ .runs) (given + 1)) (eqb (given + 1) (cmax τ)) (listed (τ .gaps) aged) (eqb aged (amax τ)) (p 0) (p (l + slots τ + (cmax τ - given))) (p (l + slots τ + 1)) (last-listed (τ .runs) (given + 1) (omega arith)) (last-listed (τ .gaps) aged (omega arith))))
 
   -- the summary is no miss and on p exactly if every decision is
-  pub summary-every : (run : Bool) → (T run → T (inHand (stateOf τ l .job))) → every (summary τ run l) p ≡ everyTick τ run (stateOf τ l) p
+  summary-every : (run : Bool) → (T run → T (inHand (stateOf τ l .job))) → every (summary τ run l) p ≡ everyTick τ run (stateOf τ l) p
   unfolding stateOf
   summary-every true i = run-every (ltb→lt given (cmax τ) (subst T (in-hand (ltb given (cmax τ)) given) (i tt)))
   summary-every false i = idle-every
+
+-- a value that is the summary, as a caller uses it
+pub summarised : (τ : Task) (run : Bool) (l : ℕ) → l < localsOf τ → (T run → T (inHand (stateOf τ l .job))) → (m : Moves) → m ≡ summary τ run l
+    → ((p : ℕ → Bool) → every m p ≡ everyTick τ run (stateOf τ l) p) × (m ≡ summary τ run l)
+summarised τ run l h i m e = (λ p. ap (λ m. every m p) e ∙ summary-every τ l h p run i, e)

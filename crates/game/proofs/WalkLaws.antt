@@ -10,7 +10,7 @@ use lib.ListN.{getD}
 use Rattle.arena.specs.Tests.{all, imp}
 use Rattle.arena.specs.Arena.{Next, miss, go, Outcome, fine}
 use Rattle.arena.specs.Arena as Arena
-use Rattle.arena.proofs.Tests.{T-true, and-left, and-right, and-by, imp-at, imp-by, all-at, all-by}
+use Rattle.arena.proofs.Tests.{and-true, T-true, and-left, and-right, and-by, imp-at, imp-by, all-at, all-by}
 use Rattle.tasks.specs.declared.sets.Task.{Task}
 use Rattle.tasks.specs.declared.sets.Set.{Set}
 use Rattle.tasks.specs.Sets.{taskAt, localsOf, statesTo, statesOf, Passed}
@@ -26,10 +26,6 @@ use Rattle.game.specs.Walk.{lands, everyTick, every, walk}
 use Rattle.game.proofs.StateLaws.{local-lt}
 use Rattle.game.proofs.ListTests.{Some, all-cong, all-none, all-gather, all-map}
 use Rattle.game.proofs.Sound.{Runs, ranged, tick-range, outcomes-some, legal-runs}
-
-and-true : (b : Bool) → (b && true) ≡ b
-and-true true = refl
-and-true false = refl
 
 -- the index i so far, a digit l more, and the rest t
 shifted : (i n w l t : ℕ) → (i * n + l) * w + t ≡ i * (n * w) + (l * w + t)

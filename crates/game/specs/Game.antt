@@ -51,10 +51,14 @@ outcomesTo s i c (suc k) =
     let before = outcomesTo s i c k in
     gather (λ f. map (λ o. out (o .seen ++ (f ∷ [])) (beside (statesTo s k) τ (tickOf τ run x f) (o .next))) before) (movesOf τ run x)
 
--- 1: the scheduler idles, 0, or runs a runnable task, i for task i
+-- 1: the scheduler idles, 0, or runs a runnable task, i for task i, where task k + 1 is in the state x k
+abbrev pub legal : Set → (ℕ → TaskState) → ℕ → Bool
+legal s x zero = true
+legal s x (suc k) = ltb k (s .count) && runnable (taskAt s k) (x k)
+
+-- at an index
 abbrev pub legalAt : Set → ℕ → ℕ → Bool
-legalAt s i zero = true
-legalAt s i (suc k) = ltb k (s .count) && runnable (taskAt s k) (taskStateAt s i k)
+legalAt s i = legal s (taskStateAt s i)
 
 -- the game of a set: every index is a state, index 0 the start
 unfoldable pub arenaOf : Set → Arena Seen

@@ -12,7 +12,7 @@ ghost use Rattle.tasks.specs.Lists.{listed, longestOf};
 ghost use Rattle.tasks.specs.Sets.{localsOf};
 ghost use Rattle.game.specs.States.{stateOf, givenFits};
 ghost use Rattle.game.specs.Ticks.{flagged, inHand, runnable, allowed, canFinish, can, jobAfter, late, tickOf};
-ghost use Rattle.game.specs.Walk.{every, everyTick};
+ghost use Rattle.game.specs.Walk.{every, everyTick, summary};
 
 // What a tick of a task comes to.
 pub enum Ticked {
@@ -138,7 +138,7 @@ fn is_late(t: Task, age: u8, job: Job) -> bool
     t.deadline <= age
 }
 
-// What a task can come to in a tick: a miss; an arrival, to local number 0; with no arrival, a job ended or never begun, and a job that stays.
+// What a task can come to in a tick: a miss; an arrival, to local number 0; with no arrival, the run job finished, or all else one tick older.
 pub struct Moves {
     pub misses: bool,
     pub comes: bool,
@@ -160,6 +160,7 @@ pub fn moves_of(t: Task, run: bool, local: u32) -> Moves
     requires { ⌜ local < localsOf t ⌝ }
     requires { ⌜ (T run → T (inHand (stateOf t local .job))) ⌝ }
     ensures { λ r. ⌜ ((p : ℕ → Bool) → every r p ≡ everyTick t run (stateOf t local) p) ⌝ }
+    ensures exactly { λ r. ⌜ r ≡ summary t run local ⌝ }
 {
     let cmax = lists::longest(t.runs);
     let age = local / (cmax + 1) + 1;

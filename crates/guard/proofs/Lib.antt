@@ -1,9 +1,2 @@
 pub mod RunLaws
 pub mod AskLaws
-pub mod TickSums
-pub mod Keeps
-pub mod Named
-pub mod Moves
-pub mod Guarded
-pub mod Safe
-pub mod Built

@@ -1,7 +1,7 @@
 -- A run: what is in it, the run at the start, and whether a run fits a set.
 use mathlib.Core.Bool.{Bool, true, false, not, _&&_, cond}
 use mathlib.Core.List.{List, [], _∷_}
-use Prim.Native.Nat.{ℕ, zero, suc, _+_, _<_}
+use Prim.Native.Nat.{ℕ, _+_, _<_}
 use lib.Dec.{eqb, leb, ltb}
 use lib.ListN.{getD}
 use Rattle.arena.specs.Tests.{allBelow, one}
@@ -14,7 +14,8 @@ use Rattle.tasks.specs.Sets.{within, taskAt, testSet}
 use Rattle.game.specs.declared.states.Job.the-variants.{InHand}
 use Rattle.game.specs.declared.states.TaskState.{TaskState}
 use Rattle.game.specs.States.{inRange, noState, stateAt}
-use Rattle.game.specs.Ticks.{inHand, runnable}
+use Rattle.game.specs.Ticks.{inHand}
+use Rattle.game.specs.Game.{legal}
 use Rattle.guard.specs.declared.runs.Counts.{Counts}
 use Rattle.guard.specs.declared.runs.Awaited.{Awaited}
 use Rattle.guard.specs.declared.runs.Awaited.the-variants.{Nothing, Choice}
@@ -100,8 +101,7 @@ placeFits s r k =
 
 -- a choice is idle or a runnable task
 unfoldable pub legalFor : Set → List TaskState → ℕ → Bool
-legalFor s xs zero = true
-legalFor s xs (suc k) = ltb k (s .count) && runnable (taskAt s k) (stateAt xs k)
+legalFor s xs = legal s (stateAt xs)
 
 -- substitutions are at most ticks, and one more while a report is awaited; none is awaited at the last tick, nor for a choice that is neither idle nor runnable
 abbrev pub awaitedFits : Set → Run → Awaited → Bool

@@ -1,70 +1,45 @@
--- The tester's answer, and the builder's, as what the theory of games says of a table. Assumes nothing.
-use mathlib.Core.Path.{_≡_, refl, sym, ap, ap₂, subst, _∙_}
-use mathlib.Core.Logic.{⊎-elim, _↔_}
-use mathlib.Core.Bool.{Bool, true, false, not, _&&_, _||_, cond}
+-- The tester's answer as what the theory of games says of a table. Assumes nothing.
+use mathlib.Core.Path.{_≡_, sym, ap, ap₂, subst}
+use mathlib.Core.Logic.{_↔_}
+use mathlib.Core.Bool.{Bool, true, false, not, _&&_, _||_}
 use mathlib.Core.List.{List}
-use Prim.Native.Nat.{ℕ, zero, suc, _+_, _≤_, _<_}
-use native.Mathlib.Omega.{arith}
-use lib.Dec.{T, eqb, ltb, T-not, nltb→le, eqb→eq}
+use Prim.Native.Nat.{ℕ, _≤_, _<_}
+use lib.Dec.{T, eqb, eqb→eq}
 use lib.ListN.{length}
-use borrow.Author.Tests.{le-ltb}
-use Rattle.arena.specs.Tests.{allBelow, imp, first}
+use Rattle.arena.specs.Tests.{allBelow, imp}
 use Rattle.arena.specs.Arena.{fine, used, guards, passes}
-use Rattle.arena.proofs.Tests.{not-not, lt-or-le, by-cond, allBelow-cong, first-le, first-least}
+use Rattle.arena.proofs.Tests.{nor, not-not, allBelow-cong}
 use Rattle.arena.proofs.Rounds.{fine-cong}
 use Rattle.arena.proofs.Tables.{passes-start, passes-at, passes-by}
-use Rattle.tasks.specs.declared.refusals.Refusal.{Refusal}
 use Rattle.tasks.specs.declared.sets.Set.{Set}
-use Rattle.tasks.specs.declared.sets.Tested.{Tested}
-use Rattle.tasks.specs.declared.sets.Tested.the-variants as Tested
-use Rattle.tasks.specs.Sets.{statesOf, testSet, Passed}
-use Rattle.tasks.proofs.Valid.{passed, valid}
+use Rattle.tasks.specs.Sets.{statesOf, Passed}
 use Rattle.game.specs.Game.{arenaOf}
 use Rattle.game.proofs.Sound.{sound}
-use Rattle.shield.specs.declared.tester.Verdict.{Verdict}
-use Rattle.shield.specs.declared.tester.Verdict.the-variants.{Passes, Refused}
-use Rattle.shield.specs.Entries.{names, entryAt, live}
-use Rattle.shield.specs.Test.{faulty, firstFault, testPassed, testTested, testOf}
+use Rattle.shield.specs.declared.tester.Verdict.the-variants.{Passes}
+use Rattle.shield.specs.Entries.{names, entryAt, Bytes, live}
+use Rattle.shield.specs.Test.{faulty, testOf}
 use Rattle.shield.proofs.EntryLaws.{names-none}
+use Rattle.shield.proofs.Tested.{passes-tried, tried-passes}
 
 -- what a table of bytes names
 abbrev pub namesIn : List ℕ → ℕ → ℕ → Bool
 namesIn table i c = names (entryAt table i) c
 
--- every entry is a byte, as in every buffer
-abbrev pub Bytes : List ℕ → Type 0
-Bytes table = (i : ℕ) → entryAt table i < 256
-
-module _ (s : Set) (p : Passed s) (table : List ℕ) (bytes : Bytes table) where
-  live-used : (i : ℕ) → live table i ≡ used (arenaOf s) (namesIn table) i
+module _ (s : Set) (p : Passed s) (table : List ℕ) (bytes : Bytes (statesOf s) table) where
+  live-used : (i : ℕ) → i < statesOf s → live table i ≡ used (arenaOf s) (namesIn table) i
   unfolding arenaOf
-  live-used i = names-none (entryAt table i) (bytes i)
+  live-used i h = names-none (entryAt table i) (bytes i h)
 
   -- an entry is not faulty exactly if the game's test finds nothing at its state
   sound-entry : (i : ℕ) → i < statesOf s → allBelow 8 (λ c. imp (names (entryAt table i) c) (fine (arenaOf s) (live table) i c)) ≡ guards (arenaOf s) (namesIn table) i
   unfolding arenaOf
-  sound-entry i h = allBelow-cong 8 _ _ (λ c l. ap (imp (names (entryAt table i) c)) (fine-cong (arenaOf s) (sound s p) _ _ (λ t b. live-used t) i c h))
+  sound-entry i h = allBelow-cong 8 _ _ (λ c l. ap (imp (names (entryAt table i) c)) (fine-cong (arenaOf s) (sound s p) _ _ live-used i c h))
 
   faulty-at : (i : ℕ) → i < statesOf s → faulty s table i ≡ ((eqb i 0 && not (used (arenaOf s) (namesIn table) i)) || not (guards (arenaOf s) (namesIn table) i))
   unfolding faulty
-  faulty-at i h = ap₂ (λ x y. (eqb i 0 && not x) || not y) (live-used i) (sound-entry i h)
+  faulty-at i h = ap₂ (λ x y. (eqb i 0 && not x) || not y) (live-used i h) (sound-entry i h)
 
--- a first number below the end is one that passes
-first-hit : (f : ℕ → Bool) (n k : ℕ) → first f n k < k + n → T (f (first f n k))
-first-hit f zero k = λ h. let z : ⊥ = omega arith in absurd z
-first-hit f (suc n) k =
-    by-cond (λ m. m < k + suc n → T (f m)) (f k) k (first f n (suc k)) (λ t h. t) (λ _ h. first-hit f n (suc k) (omega arith))
-
--- a test that passes has gone on past each refusal
-went-on : (b : Bool) (f : Refusal) (v : Verdict) → cond b (Refused f) v ≡ Passes → T (not b) × (v ≡ Passes)
-went-on true f v e = let z : _≡_ {A = ℕ} 0 1 = cc in absurd (omega arith)
-went-on false f v e = (tt, e)
-
-nor : (a b : Bool) → T (not (a || b)) → T (not a) × T (not b)
-nor true b t = absurd t
-nor false b t = (tt, t)
-
-module _ (s : Set) (p : Passed s) (table : List ℕ) (bytes : Bytes table) where
+module _ (s : Set) (p : Passed s) (table : List ℕ) (bytes : Bytes (statesOf s) table) where
   none-faulty : T (passes (arenaOf s) (namesIn table)) → (i : ℕ) → i < statesOf s → T (not (faulty s table i))
   unfolding arenaOf
   none-faulty t i h =
@@ -80,41 +55,15 @@ module _ (s : Set) (p : Passed s) (table : List ℕ) (bytes : Bytes table) where
       both false u true h t = tt
       both false u false h t = absurd t
 
-  -- the tester finds no fault exactly if the table passes the game's test
-  pub passes-iff : T (passes (arenaOf s) (namesIn table)) ↔ (firstFault s table ≡ statesOf s)
+  no-fault-passes : ((i : ℕ) → i < statesOf s → T (not (faulty s table i))) → T (passes (arenaOf s) (namesIn table))
   unfolding arenaOf
-  passes-iff = (there, back)
+  no-fault-passes right = passes-by (arenaOf s) (namesIn table)
+      (not-not (used (arenaOf s) (namesIn table) 0) (parts 0 (sound s p .start) .0))
+      (λ i h. not-not (guards (arenaOf s) (namesIn table) i) (parts i h .1))
     where
-      there : T (passes (arenaOf s) (namesIn table)) → firstFault s table ≡ statesOf s
-      there t = ⊎-elim
-          (λ l. absurd (T-not (faulty s table (firstFault s table)) (none-faulty t (firstFault s table) l) (first-hit (faulty s table) (statesOf s) 0 (omega arith))))
-          (λ g. omega (arith, first-le (faulty s table) (statesOf s) 0)) (lt-or-le (firstFault s table) (statesOf s))
+      parts : (i : ℕ) → i < statesOf s → T (not (eqb i 0 && not (used (arenaOf s) (namesIn table) i))) × T (not (not (guards (arenaOf s) (namesIn table) i)))
+      parts i h = nor (eqb i 0 && not (used (arenaOf s) (namesIn table) i)) _ (subst (λ b. T (not b)) (faulty-at s p table bytes i h) (right i h))
 
-      parts : firstFault s table ≡ statesOf s → (i : ℕ) → i < statesOf s → T (not (eqb i 0 && not (used (arenaOf s) (namesIn table) i))) × T (not (not (guards (arenaOf s) (namesIn table) i)))
-      parts e i h = nor (eqb i 0 && not (used (arenaOf s) (namesIn table) i)) _ (subst (λ b. T (not b)) (faulty-at s p table bytes i h) (first-least (faulty s table) (statesOf s) 0 i (omega arith) (omega arith)))
-
-      back : firstFault s table ≡ statesOf s → T (passes (arenaOf s) (namesIn table))
-      back e = passes-by (arenaOf s) (namesIn table)
-          (not-not (used (arenaOf s) (namesIn table) 0) (parts e 0 (sound s p .start) .0))
-          (λ i h. not-not (guards (arenaOf s) (namesIn table) i) (parts e i h .1))
-
-  -- in the tester's own words
+  -- the tester passes a table that is long enough exactly if the table passes the game's test
   pub tested-iff : statesOf s ≤ length table → T (passes (arenaOf s) (namesIn table)) ↔ (testOf s table ≡ Passes)
-  tested-iff room = (λ t. ap (testTested s table) p ∙ there (passes-iff .0 t), λ e. passes-iff .1 (back (sym (ap (testTested s table) p) ∙ e)))
-    where
-      there : firstFault s table ≡ statesOf s → testPassed s table (statesOf s) ≡ Passes
-      there e = simp (le-ltb (length table) (statesOf s) room, le-ltb (firstFault s table) (statesOf s) (omega arith))
-
-      back : testPassed s table (statesOf s) ≡ Passes → firstFault s table ≡ statesOf s
-      back e =
-          let a = went-on (ltb (length table) (statesOf s)) _ _ e in
-          let b = went-on (ltb (firstFault s table) (statesOf s)) _ _ (a .1) in
-          omega (arith, nltb→le (firstFault s table) (statesOf s) (b .0), first-le (faulty s table) (statesOf s) 0)
-
--- a table that passes, from any maker, is long enough, and its set passes its own test
-pub tested-passed : (s : Set) (table : List ℕ) → testOf s table ≡ Passes → Passed s × (statesOf s ≤ length table)
-tested-passed s table e = by (testSet s) refl e
-  where
-    by : (v : Tested) → testSet s ≡ v → testTested s table v ≡ Passes → Passed s × (statesOf s ≤ length table)
-    by (Tested.Refused f) q h = let z : _≡_ {A = ℕ} 0 1 = cc in absurd (omega arith)
-    by (Tested.States n) q h = (passed s n q, omega (arith, nltb→le (length table) n (went-on (ltb (length table) n) _ _ h .0), valid s n q .1))
+  tested-iff room = (λ t. tried-passes s table (record { set = p; long = room; right = none-faulty t }), λ e. no-fault-passes (passes-tried s table e .right))

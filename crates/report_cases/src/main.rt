@@ -1,24 +1,11 @@
 // Worked reports: what the call answers, how many bytes of output, table and work have changed, and the report.
-use libc::STDOUT_FILENO;
+use cases::lines::put;
+use cases::lines::put_number;
+use cases::lines::put_refusal;
 use reporter::Reported;
-use tasks::refusals::Refusal;
 ghost use Rattle.io.specs.Counts.{Counts};
 
 const PAIR: [u8; 31] = *b"set PAIR\nhard 2 1 2\nhard 2 1 2\n";
-
-fn put(text: &[u8]) {
-    io::write_all(STDOUT_FILENO, text);
-}
-
-fn put_number(word: &[u8], n: u64) {
-    put(word);
-    io::print_decimal(STDOUT_FILENO, n);
-}
-
-fn put_refusal(f: Refusal) {
-    put_number(b" refused ", f.number as u64);
-    put_number(b" place ", f.place as u64);
-}
 
 fn put_answer(r: Reported) {
     match r {

@@ -26,10 +26,6 @@ one-of zero h = refl
 one-of (suc zero) h = refl
 one-of (suc (suc x)) h = let z : ⊥ = omega arith in absurd z
 
-one-le : (b : Bool) → one b ≤ 1
-one-le true = omega arith
-one-le false = omega arith
-
 pub marks-lt : (n : ℕ) (f : ℕ → Bool) → marks n f < 2 ^ n
 unfolding marks
 marks-lt zero f = omega arith

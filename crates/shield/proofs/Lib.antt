@@ -5,3 +5,4 @@ pub mod FineLaws
 pub mod TestLaws
 pub mod BuildLaws
 pub mod Done
+pub mod Tested

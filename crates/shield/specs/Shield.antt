@@ -1,22 +1,19 @@
 -- What the builder and the tester do with the entries of a table.
-use mathlib.Core.Bool.{Bool, true, _&&_}
+use mathlib.Core.Bool.{Bool, _&&_}
 use mathlib.Core.List.{List}
 use Prim.Native.Nat.{ℕ, zero, suc}
-use lib.Dec.{ltb}
 use lib.ListN.{getD}
 use Rattle.arena.specs.Arena.{fine, left, shield}
 use Rattle.tasks.specs.declared.sets.Set.{Set}
 use Rattle.tasks.specs.Sets.{taskAt, statesOf}
 use Rattle.game.specs.States.{stateOf}
-use Rattle.game.specs.Ticks.{runnable}
-use Rattle.game.specs.Game.{arenaOf}
+use Rattle.game.specs.Game.{legal, arenaOf}
 use Rattle.game.specs.Walk.{walk}
 use Rattle.shield.specs.Entries.{names, entryOf, entryAt, live, listTo}
 
 -- the choice c is legal where the tasks are at the local numbers d
 unfoldable pub legalIn : Set → List ℕ → ℕ → Bool
-legalIn s d zero = true
-legalIn s d (suc k) = ltb k (s .count) && runnable (taskAt s k) (stateOf (taskAt s k) (getD d k 0))
+legalIn s d = legal s (λ k. stateOf (taskAt s k) (getD d k 0))
 
 -- and each of its outcomes is no miss and on an entry that is not zero
 unfoldable pub fineIn : Set → List ℕ → List ℕ → ℕ → Bool

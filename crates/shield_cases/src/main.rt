@@ -1,43 +1,32 @@
 // Worked cases of the builder and the tester, a line each.
-use libc::STDOUT_FILENO;
+use cases::lines::checksum;
+use cases::lines::put;
+use cases::lines::put_bytes;
+use cases::lines::put_number;
+use cases::lines::put_refusal;
+use cases::sets::V1;
+use cases::sets::V2;
+use cases::sets::V3;
+use cases::sets::V4;
+use cases::sets::V5;
+use cases::sets::V13;
+use cases::sets::V14;
+use cases::sets::V16;
+use cases::sets::all;
+use cases::sets::example;
+use cases::sets::hard;
+use cases::sets::one;
+use cases::sets::pair;
+use cases::sets::set;
+use cases::sets::soft;
+use cases::sets::task;
+use cases::sets::three;
+use cases::sets::two;
 use shield::builder;
 use shield::builder::Built;
 use shield::tester;
 use shield::tester::Verdict;
-use tasks::refusals::Refusal;
 use tasks::sets::Set;
-use tasks::sets::Task;
-
-// A list of one value is named after it.
-const V1: u16 = 1;
-
-const V2: u16 = 2;
-
-const V3: u16 = 4;
-
-const V4: u16 = 8;
-
-const V5: u16 = 16;
-
-const V13: u16 = 4096;
-
-const V14: u16 = 8192;
-
-const V16: u16 = 32768;
-
-fn put(text: &[u8]) {
-    io::write_all(STDOUT_FILENO, text);
-}
-
-fn put_number(text: &[u8], n: u64) {
-    put(text);
-    io::print_decimal(STDOUT_FILENO, n);
-}
-
-fn put_refusal(f: Refusal) {
-    put_number(b" refused ", f.number as u64);
-    put_number(b" place ", f.place as u64);
-}
 
 fn put_built(b: Built) {
     match b {
@@ -59,33 +48,6 @@ fn put_verdict(v: Verdict) {
         Verdict::Passes => put(b" passes"),
         Verdict::Refused(f) => put_refusal(f),
     }
-}
-
-fn put_byte(b: u8) {
-    put_number(b" ", b as u64);
-}
-
-fn put_bytes(buf: &[u8]) {
-    let mut i = 0;
-    while i < buf.len() {
-        put_byte(buf[i]);
-        i += 1;
-    }
-}
-
-fn next_sum(sum: u32, b: u8) -> u32 {
-    ((sum % 16777213) * 251 + b as u32) % 16777213
-}
-
-// A number that stands for the bytes of a long buffer, in their order.
-fn checksum(buf: &[u8]) -> u32 {
-    let mut sum: u32 = 0;
-    let mut i = 0;
-    while i < buf.len() {
-        sum = next_sum(sum, buf[i]);
-        i += 1;
-    }
-    sum
 }
 
 // What the builder answers, and every byte that it was lent.
@@ -118,63 +80,6 @@ fn show_test(label: &[u8], s: Set, table: &[u8]) {
     put(b":");
     put_verdict(tester::test(s, table));
     put(b"\n");
-}
-
-fn soft(deadline: u8, runs: u16, gaps: u16) -> Task {
-    Task {
-        kind: 0,
-        deadline: deadline,
-        runs: runs,
-        gaps: gaps,
-    }
-}
-
-fn hard(deadline: u8, runs: u16, gaps: u16) -> Task {
-    Task {
-        kind: 1,
-        deadline: deadline,
-        runs: runs,
-        gaps: gaps,
-    }
-}
-
-fn blank() -> Task {
-    soft(0, 0, 0)
-}
-
-fn set(count: u8, tasks: [Task; 7]) -> Set {
-    Set {
-        name: *b"CASE\0\0\0\0\0\0\0\0\0\0\0\0",
-        count: count,
-        tasks: tasks,
-    }
-}
-
-fn one(t: Task) -> Set {
-    let z = blank();
-    set(1, [t, z, z, z, z, z, z])
-}
-
-fn two(a: Task, b: Task) -> Set {
-    let z = blank();
-    set(2, [a, b, z, z, z, z, z])
-}
-
-fn three(a: Task, b: Task, c: Task) -> Set {
-    let z = blank();
-    set(3, [a, b, c, z, z, z, z])
-}
-
-fn seven(t: Task) -> Set {
-    set(7, [t; 7])
-}
-
-fn pair() -> Set {
-    two(hard(2, V1, V2), hard(2, V1, V2))
-}
-
-fn example() -> Set {
-    two(hard(2, V1, V3), soft(2, V1 + V2, V3))
 }
 
 // The figures with a table.
@@ -243,7 +148,7 @@ fn round_cases() {
     );
     show(
         b"seven of soft 1 1 1",
-        seven(soft(1, V1, V1)),
+        all(7, soft(1, V1, V1)),
         &mut [7; 128],
         &mut [9; 128],
     );
@@ -319,7 +224,7 @@ fn length_tests() {
 fn outcome_tests() {
     let early = one(hard(2, V1 + V2, V2));
     let away = one(hard(1, V1, V1 + V2));
-    let many = seven(soft(1, V1, V1));
+    let many = all(7, soft(1, V1, V1));
     show_test(b"hard 2 1,2 2, 2 0 0 0 2 0", early, &[2, 0, 0, 0, 2, 0]);
     show_test(b"hard 2 1,2 2, 2 0 0 0 2 1", early, &[2, 0, 0, 0, 2, 1]);
     show_test(b"hard 1 1 1,2, 2 0 0 0", away, &[2, 0, 0, 0]);

@@ -4,4 +4,3 @@ pub mod WriteLaws
 pub mod Opening
 pub mod Trips
 pub mod OneSet
-pub mod Figures

@@ -1,7 +1,7 @@
 -- A file opens for one set only, and names that differ are refused where they first differ. Assumes nothing.
 use mathlib.Core.Path.{_≡_, refl, sym, ap, _∙_}
 use mathlib.Core.Logic.{⊎-elim}
-use mathlib.Core.List.{List}
+use mathlib.Core.List.{List, []}
 use Prim.Native.Nat.{ℕ, _+_, _-_, _*_, _/_, _%_, _≤_, _<_}
 use native.Mathlib.Omega.{arith}
 use lib.Dec.{T, eqb, eqb→eq}
@@ -11,15 +11,14 @@ use Rattle.arena.proofs.Tests.{and-left, and-right, lt-or-le}
 use Rattle.tasks.specs.declared.sets.Task.{Task}
 use Rattle.tasks.specs.declared.sets.Set.{Set}
 use Rattle.tasks.specs.Refusals.{headerDiffers}
-use Rattle.tasks.specs.Sets.{noTask, taskAt, blank, statesOf, Passed}
+use Rattle.tasks.specs.Sets.{noTask, taskAt, Sized, blank, statesOf, Passed}
 use Rattle.tasks.proofs.Valid.{passed-valid}
-use Rattle.table_file.specs.declared.opener.Opened.the-variants.{Opens}
-use Rattle.table_file.specs.Files.{Machine, taskBytes, header, headerLength, fileOf}
-use Rattle.table_file.specs.Open.{present, refuse, openTested, openOf}
+use Rattle.table_file.specs.Files.{taskBytes, header, headerLength, fileOf}
+use Rattle.table_file.specs.Open.{present, openTested, openOf, saidOpened}
 use Rattle.table_file.proofs.FileLaws.{fixed-at, name-at, count-at, task-at, task-kind, task-deadline, task-runs, task-gaps}
 use Rattle.table_file.proofs.OpenLaws.{present-long, open-header}
-use Rattle.table_file.proofs.Opening.{Opening, opening, none-in, first-in}
-use Rattle.table_file.proofs.Trips.{file-length, file-header}
+use Rattle.table_file.proofs.Opening.{Opening, opening, said-opens, none-in, first-in}
+use Rattle.table_file.proofs.Trips.{file-length, file-header, Opens}
 
 -- values are equal by their fields
 task-eq : (a b : Task) → a .kind ≡ b .kind → a .deadline ≡ b .deadline → a .runs ≡ b .runs → a .gaps ≡ b .gaps → a ≡ b
@@ -47,7 +46,7 @@ bytes-eq a b p q e =
     let g1 : a .gaps / 256 % 256 ≡ b .gaps / 256 % 256 = sym (task-gaps a 5 (omega arith) (omega arith)) ∙ e 5 (omega arith) ∙ task-gaps b 5 (omega arith) (omega arith) in
     task-eq a b (task-kind a 0 refl ∙ e 0 (omega arith) ∙ sym (task-kind b 0 refl)) (task-deadline a 1 refl ∙ e 1 (omega arith) ∙ sym (task-deadline b 1 refl)) (omega arith) (omega arith)
 
-module _ (file : List ℕ) (s u : Set) (m : Machine s) (n : Machine u) (o : Opening s file) (q : Opening u file) where
+module _ (file : List ℕ) (s u : Set) (m : Sized s) (n : Sized u) (o : Opening s file) (q : Opening u file) where
   count-eq : s .count ≡ u .count
   count-eq = sym (count-at s (m .name)) ∙ sym (o .same 21 (omega arith)) ∙ q .same 21 (omega arith) ∙ count-at u (n .name)
 
@@ -75,19 +74,19 @@ module _ (file : List ℕ) (s u : Set) (m : Machine s) (n : Machine u) (o : Open
   sets-eq = set-eq s u name-eq count-eq (ext-getD noTask (s .tasks) (u .tasks) (m .tasks ∙ sym (n .tasks)) (λ i h. record-eq i (omega (arith, m .tasks))))
 
 -- a file that opens for two sets means that the sets are equal
-pub one-set : (file : List ℕ) (s u : Set) → Machine s → Machine u → openOf s file ≡ Opens → openOf u file ≡ Opens → s ≡ u
-one-set file s u m n o q = sets-eq file s u m n (opening s file o) (opening u file q)
+pub one-set : (file : List ℕ) (s u : Set) → Sized s → Sized u → Opens s file → Opens u file → s ≡ u
+one-set file s u m n o q = sets-eq file s u m n (opening s file (said-opens s file o)) (opening u file (said-opens u file q))
 
 -- the file of a set whose name first differs from this set's in character k + 1 is refused with 12 at 5 + k
-module _ (s u : Set) (m : Machine s) (n : Machine u) (p : Passed s) (q : Passed u) (t : List ℕ) (ht : statesOf s ≤ length t) where
+module _ (s u : Set) (m : length (s .name) ≡ 16) (n : length (u .name) ≡ 16) (p : Passed s) (q : Passed u) (t : List ℕ) (ht : statesOf s ≤ length t) where
   byte : (i k : ℕ) → k < 16 → i < 5 + k → ((j : ℕ) → j < k → getD (s .name) j 0 ≡ getD (u .name) j 0) → getD (fileOf s t) i 0 ≡ getD (header u) i 0
   byte i k b l e =
       file-header s m p t ht i (omega arith)
-      ∙ ⊎-elim (λ h. fixed-at s (m .name) i h ∙ sym (fixed-at u (n .name) i h))
-      (λ h. name-at s (m .name) i h (omega arith) ∙ e (i - 5) (omega arith) ∙ sym (name-at u (n .name) i h (omega arith))) (lt-or-le i 5)
+      ∙ ⊎-elim (λ h. fixed-at s m i h ∙ sym (fixed-at u n i h))
+      (λ h. name-at s m i h (omega arith) ∙ e (i - 5) (omega arith) ∙ sym (name-at u n i h (omega arith))) (lt-or-le i 5)
 
   pub other-name : (k : ℕ) → k < 16 → ((j : ℕ) → j < k → getD (s .name) j 0 ≡ getD (u .name) j 0) → (getD (s .name) k 0 ≡ getD (u .name) k 0 → ⊥)
-      → openOf u (fileOf s t) ≡ refuse headerDiffers (5 + k)
+      → saidOpened (openOf u (fileOf s t)) ≡ record { number = headerDiffers; place = 5 + k; values = [] }
   other-name k b e d =
       let f = fileOf s t in
       let l = file-length s m p t ht in
@@ -95,11 +94,12 @@ module _ (s u : Set) (m : Machine s) (n : Machine u) (p : Passed s) (q : Passed 
       let x = none-in u f 0 3 (omega arith) (λ i h. byte i k b (omega arith) e) in
       let y = none-in u f 3 5 (omega arith) (λ i h. byte i k b (omega arith) e) in
       let z = first-in u f 5 (present u f) (5 + k) (omega arith) (omega arith) (λ i h. byte i k b h e) (λ g. d (there k b g)) in
-      ap (openTested u f) q
-      ∙ open-header u f (omega (arith, l)) (omega arith) (omega arith) (present u f) (5 + k) refl (sym z) (omega arith)
+      ap saidOpened
+      (ap (openTested u f) q
+      ∙ open-header u f (omega (arith, l)) (omega arith) (omega arith) (present u f) (5 + k) refl (sym z) (omega arith))
     where
       there : (k : ℕ) → k < 16 → getD (fileOf s t) (5 + k) 0 ≡ getD (header u) (5 + k) 0 → getD (s .name) k 0 ≡ getD (u .name) k 0
       there k b g =
           let h : 5 + k - 5 ≡ k = omega arith in
-          ap (λ (j : ℕ). getD (s .name) j 0) (sym h) ∙ sym (file-header s m p t ht (5 + k) (omega arith) ∙ name-at s (m .name) (5 + k) (omega arith) (omega arith))
-          ∙ g ∙ name-at u (n .name) (5 + k) (omega arith) (omega arith) ∙ ap (λ (j : ℕ). getD (u .name) j 0) h
+          ap (λ (j : ℕ). getD (s .name) j 0) (sym h) ∙ sym (file-header s m p t ht (5 + k) (omega arith) ∙ name-at s m (5 + k) (omega arith) (omega arith))
+          ∙ g ∙ name-at u n (5 + k) (omega arith) (omega arith) ∙ ap (λ (j : ℕ). getD (u .name) j 0) h

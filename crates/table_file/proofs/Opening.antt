@@ -10,21 +10,22 @@ use lib.Dec.{T, eqb, ltb, eqb→eq, nltb→le}
 use lib.ListN.{length, getD, drop}
 use borrow.Author.Tests.{eq-eqb, ne-eqb}
 use Rattle.arena.specs.Tests.{first}
-use Rattle.arena.proofs.Tests.{not-not, lt-or-le, first-least}
+use Rattle.arena.proofs.Tests.{nor, not-not, lt-or-le, first-least}
 use Rattle.tasks.specs.declared.refusals.Refusal.{Refusal}
 use Rattle.tasks.specs.declared.sets.Set.{Set}
 use Rattle.tasks.specs.declared.sets.Tested.{Tested}
 use Rattle.tasks.specs.declared.sets.Tested.the-variants as Tested
 use Rattle.tasks.specs.Sets.{testSet, Passed}
-use Rattle.tasks.proofs.Valid.{passed}
+use Rattle.tasks.proofs.Valid.{passed, refused-number}
 use Rattle.shield.specs.declared.tester.Verdict.{Verdict}
 use Rattle.shield.specs.declared.tester.Verdict.the-variants.{Passes}
 use Rattle.shield.specs.declared.tester.Verdict.the-variants as Verdict
 use Rattle.shield.specs.Test.{testOf}
+use Rattle.shield.proofs.Tested.{refused-said}
 use Rattle.table_file.specs.declared.opener.Opened.{Opened}
 use Rattle.table_file.specs.declared.opener.Opened.the-variants.{Opens, Refused}
 use Rattle.table_file.specs.Files.{header, headerLength, fileLength}
-use Rattle.table_file.specs.Open.{differs, lowest, other, present, openVerdict, openPassed, openTested, openOf}
+use Rattle.table_file.specs.Open.{differs, lowest, other, present, openVerdict, openPassed, openTested, openOf, saidOpened}
 use Rattle.table_file.proofs.OpenLaws.{present-header, open-test, rest}
 
 -- the set passes, the header is the set's, the length is right, and the table part passes the test
@@ -39,10 +40,6 @@ cond-else : (b : Bool) (f : Refusal) (x : Opened) → cond b (Refused f) x ≡ O
 cond-else true f x e = let z : _≡_ {A = ℕ} 0 1 = cc in absurd (omega arith)
 cond-else false f x e = (tt, e)
 
-nor : (a b : Bool) → T (not (a || b)) → T (not a) × T (not b)
-nor true b t = absurd t
-nor false b t = (tt, t)
-
 test-passes : (v : Verdict) → openVerdict v ≡ Opens → v ≡ Passes
 test-passes Passes e = refl
 test-passes (Verdict.Refused f) e = let z : _≡_ {A = ℕ} 0 1 = cc in absurd (omega arith)
@@ -54,9 +51,9 @@ first-none f (suc n) k h =
     ap (λ b. cond b k (first f n (suc k))) (h k (omega arith) (omega arith)) ∙ first-none f n (suc k) (λ j p q. h j (omega arith) (omega arith)) ∙ omega arith
 
 -- the first that passes from k on
-first-hit : (f : ℕ → Bool) (n k j : ℕ) → k ≤ j → j < k + n → ((i : ℕ) → k ≤ i → i < j → f i ≡ false) → f j ≡ true → first f n k ≡ j
-first-hit f zero k j l b h e = let z : ⊥ = omega arith in absurd z
-first-hit f (suc n) k j l b h e = ⊎-elim here (λ m. later m (first-hit f n (suc k) j m (omega arith) (λ i p q. h i (omega arith) q) e)) (eq-or-lt-of-le l)
+first-is : (f : ℕ → Bool) (n k j : ℕ) → k ≤ j → j < k + n → ((i : ℕ) → k ≤ i → i < j → f i ≡ false) → f j ≡ true → first f n k ≡ j
+first-is f zero k j l b h e = let z : ⊥ = omega arith in absurd z
+first-is f (suc n) k j l b h e = ⊎-elim here (λ m. later m (first-is f n (suc k) j m (omega arith) (λ i p q. h i (omega arith) q) e)) (eq-or-lt-of-le l)
   where
     here : k ≡ j → cond (f k) k (first f n (suc k)) ≡ j
     here q = ap (λ b. cond b k (first f n (suc k))) (ap f q ∙ e) ∙ q
@@ -80,7 +77,7 @@ module _ (s : Set) (file : List ℕ) where
   pub first-in : (lo hi i : ℕ) → lo ≤ i → i < hi → ((j : ℕ) → j < i → getD file j 0 ≡ getD (header s) j 0) → (getD file i 0 ≡ getD (header s) i 0 → ⊥) → lowest s file lo hi ≡ i
   unfolding lowest
   first-in lo hi i l b h e =
-      first-hit (differs s file) (hi - lo) lo i l (omega arith) (λ j p q. ap not (eq-eqb (getD file j 0) (getD (header s) j 0) (h j q)))
+      first-is (differs s file) (hi - lo) lo i l (omega arith) (λ j p q. ap not (eq-eqb (getD file j 0) (getD (header s) j 0) (h j q)))
       (ap not (ne-eqb (getD file i 0) (getD (header s) i 0) e))
 
   tested : (t : Tested) → testSet s ≡ t → openTested s file t ≡ Opens → Passed s × (openPassed s file ≡ Opens)
@@ -115,3 +112,24 @@ module _ (s : Set) (file : List ℕ) where
       ap (openTested s file) (o .set)
       ∙ open-test s file (omega (arith, o .long)) (omega arith) (omega arith) (present s file) (lowest s file 5 (present s file)) refl refl (omega arith)
       (fileLength s) (headerLength s) Passes refl (o .long) refl (sym (ap (testOf s) (rest (headerLength s) file) ∙ o .part))
+
+  -- an answer that refuses nothing is `Opens`
+  pub said-opens : saidOpened (openOf s file) .number ≡ 0 → openOf s file ≡ Opens
+  unfolding openPassed
+  said-opens = by (testSet s) refl
+    where
+      on : (b : Bool) (f : Refusal) (v : Opened) → 1 ≤ f .number → (saidOpened v .number ≡ 0 → v ≡ Opens) → saidOpened (cond b (Refused f) v) .number ≡ 0 → cond b (Refused f) v ≡ Opens
+      on true f v h g q = absurd (omega arith)
+      on false f v h g q = g q
+
+      part : (v : Verdict) → testOf s (drop (headerLength s) file) ≡ v → saidOpened (openVerdict v) .number ≡ 0 → openVerdict v ≡ Opens
+      part Passes q h = refl
+      part (Verdict.Refused f) q h = absurd (omega (arith, refused-said s (drop (headerLength s) file) f q))
+
+      by : (t : Tested) → testSet s ≡ t → saidOpened (openTested s file t) .number ≡ 0 → openTested s file t ≡ Opens
+      by (Tested.Refused f) q h = absurd (omega (arith, refused-number s f q .0))
+      by (Tested.States n) q h =
+          on (ltb (length file) 5 || other s file 0 3) _ _ (omega arith)
+          (on (other s file 3 5) _ _ (omega arith)
+          (on (other s file 5 (present s file)) _ _ (omega arith)
+          (on (not (eqb (length file) (fileLength s))) _ _ (omega arith) (part (testOf s (drop (headerLength s) file)) refl)))) h

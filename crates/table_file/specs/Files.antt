@@ -1,8 +1,7 @@
 -- A table file: its header, and its bytes.
 use mathlib.Core.List.{List, [], _∷_, _++_}
-use mathlib.Core.Path.{_≡_}
-use Prim.Native.Nat.{ℕ, zero, suc, _+_, _*_, _/_, _%_, _<_}
-use lib.ListN.{length, take}
+use Prim.Native.Nat.{ℕ, zero, suc, _+_, _*_, _/_, _%_}
+use lib.ListN.{take}
 use Rattle.tasks.specs.declared.sets.Task.{Task}
 use Rattle.tasks.specs.declared.sets.Set.{Set}
 use Rattle.tasks.specs.Sets.{taskAt, statesOf}
@@ -44,9 +43,3 @@ fileOf s table = header s ++ take (statesOf s) table
 -- length 26 + 6n + S
 abbrev pub fileLength : Set → ℕ
 fileLength s = headerLength s + statesOf s
-
--- a set as the code holds it: a name of 16 bytes, seven records, lists of 16 bits
-pub record Machine (s : Set) : Type 0 where
-  pub name : length (s .name) ≡ 16
-  pub tasks : length (s .tasks) ≡ 7
-  pub lists : (k : ℕ) → k < 7 → (taskAt s k .runs < 65536) × (taskAt s k .gaps < 65536)

@@ -8,7 +8,7 @@ use lib.ListN.{length, drop}
 use Rattle.tasks.specs.declared.sets.Set.{Set}
 use Rattle.tasks.specs.declared.sets.Tested.{Tested}
 use Rattle.tasks.specs.declared.sets.Tested.the-variants as Tested
-use Rattle.tasks.specs.Refusals.{Said, answered, refusing, bufferTooShort}
+use Rattle.tasks.specs.Refusals.{Said, answered, refusing, short}
 use Rattle.tasks.specs.Sets.{testSet}
 use Rattle.shield.specs.declared.tester.Verdict.{Verdict}
 use Rattle.shield.specs.declared.tester.Verdict.the-variants as Verdict
@@ -19,7 +19,7 @@ use Rattle.table_file.specs.Files.{fileOf, fileLength}
 
 -- a lent buffer of fewer than n bytes
 abbrev pub tooShort : ℕ → Written
-tooShort n = Refused (record { number = bufferTooShort; place = n })
+tooShort n = Refused (short n)
 
 abbrev pub shortOr : ℕ → ℕ → Written → Written
 shortOr m n w = cond (ltb m n) (tooShort n) w

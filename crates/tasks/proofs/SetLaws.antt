@@ -9,7 +9,7 @@ use native.Mathlib.Omega.{arith}
 use lib.Dec.{T, eqb, leb, ltb, leb→le}
 use lib.ListN.{length, getD, drop}
 use lib.Seq.{drop-cons, drop-length}
-use borrow.Author.Tests.{eq-eqb, ne-eqb, lt-ltb, le-ltb}
+use borrow.Author.Tests.{eq-eqb, lt-ltb}
 use Rattle.arena.proofs.Tests.{and-left, and-right}
 use Rattle.tasks.specs.declared.sets.Task.{Task}
 use Rattle.tasks.specs.declared.sets.Set.{Set}
@@ -33,25 +33,17 @@ module _ (name : List ℕ) (n : ℕ) where
   unfolding characters
   characters-end e = ap characters (drop-end e)
 
-  pub characters-stop : n < length name → nameByte (getD name n 0) ≡ false → characters (drop n name) ≡ 0
+  pub characters-here : n < length name → (b : Bool) → nameByte (getD name n 0) ≡ b → characters (drop n name) ≡ cond b (suc (characters (drop (n + 1) name))) 0
   unfolding characters
-  characters-stop h e = ap characters (drop-one h) ∙ ap (λ b. cond b (suc (characters (drop (n + 1) name))) 0) e
-
-  pub characters-more : n < length name → nameByte (getD name n 0) ≡ true → characters (drop n name) ≡ suc (characters (drop (n + 1) name))
-  unfolding characters
-  characters-more h e = ap characters (drop-one h) ∙ ap (λ b. cond b (suc (characters (drop (n + 1) name))) 0) e
+  characters-here h b e = ap characters (drop-one h) ∙ ap (λ b. cond b (suc (characters (drop (n + 1) name))) 0) e
 
   pub zeros-end : length name ≡ n → zeros (drop n name) ≡ true
   unfolding zeros
   zeros-end e = ap zeros (drop-end e)
 
-  pub zeros-stop : n < length name → (getD name n 0 ≡ 0 → ⊥) → zeros (drop n name) ≡ false
+  pub zeros-here : n < length name → (b : Bool) → eqb (getD name n 0) 0 ≡ b → zeros (drop n name) ≡ (b && zeros (drop (n + 1) name))
   unfolding zeros
-  zeros-stop h e = ap zeros (drop-one h) ∙ ap (λ b. b && zeros (drop (n + 1) name)) (ne-eqb (getD name n 0) 0 e)
-
-  pub zeros-more : n < length name → getD name n 0 ≡ 0 → zeros (drop n name) ≡ zeros (drop (n + 1) name)
-  unfolding zeros
-  zeros-more h e = ap zeros (drop-one h) ∙ ap (λ b. b && zeros (drop (n + 1) name)) (eq-eqb (getD name n 0) 0 e)
+  zeros-here h b e = ap zeros (drop-one h) ∙ ap (λ b. b && zeros (drop (n + 1) name)) e
 
 pub characters-le : (name : List ℕ) → characters name ≤ length name
 unfolding characters
@@ -118,10 +110,6 @@ module _ (s : Set) where
     unfolding lowestFault
     fault-end h = let e : 7 - i ≡ 0 = omega arith in ap (λ k. lowestFault s k i t) e
 
-  pub states-over : 60000 < statesOf s → testStates s ≡ Refused (record { number = tooManyStates; place = 0 })
+  pub states-by : (b : Bool) → ltb 60000 (statesOf s) ≡ b → testStates s ≡ refuseOr (cond b tooManyStates 0) 0 (States (statesOf s))
   unfolding testStates
-  states-over h = ap (λ b. refuseOr (cond b tooManyStates 0) 0 (States (statesOf s))) (lt-ltb 60000 (statesOf s) h)
-
-  pub states-fit : statesOf s ≤ 60000 → testStates s ≡ States (statesOf s)
-  unfolding testStates
-  states-fit h = ap (λ b. refuseOr (cond b tooManyStates 0) 0 (States (statesOf s))) (le-ltb 60000 (statesOf s) h)
+  states-by b e = ap (λ b. refuseOr (cond b tooManyStates 0) 0 (States (statesOf s))) e

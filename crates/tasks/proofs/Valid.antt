@@ -1,13 +1,13 @@
 -- What a set that passes the test is, rule by rule, and that such a set passes. Assumes nothing.
 use mathlib.Core.Path.{_≡_, refl, sym, ap, subst, _∙_}
 use mathlib.Core.Logic.{⊎-elim}
-use mathlib.Core.Bool.{Bool, true, false, not, _&&_, _||_, cond}
+use mathlib.Core.Bool.{Bool, true, false, not, _&&_, cond}
 use Prim.Native.Nat.{ℕ, zero, suc, _+_, _≤_, _<_}
 use native.Mathlib.Nat.{eq-or-lt-of-le}
 use native.Mathlib.Omega.{arith}
 use lib.Dec.{T, eqb, ltb, nltb→le}
 use borrow.Author.Tests.{lt-ltb, le-ltb, le-leb, ne-eqb}
-use Rattle.arena.proofs.Tests.{and-left, and-right, not-not, lt-or-le, T-true}
+use Rattle.arena.proofs.Tests.{nor, and-left, and-right, not-not, lt-or-le, T-true}
 use Rattle.tasks.specs.declared.refusals.Refusal.{Refusal}
 use Rattle.tasks.specs.declared.sets.Task.{Task}
 use Rattle.tasks.specs.declared.sets.Set.{Set}
@@ -16,7 +16,7 @@ use Rattle.tasks.specs.declared.sets.Tested.the-variants.{States, Refuse
 use Rattle.tasks.specs.Lists.{lengthOf, shortestOf}
 use Rattle.tasks.specs.Refusals.{badRecord, tooManyStates}
 use Rattle.tasks.specs.Sets.{goodName, within, cmax, unfit, blank, faultOf, taskAt, faultAt, statesOf, refuseOr, lowestFault, testStates, testSet, Passed}
-use Rattle.tasks.proofs.SetLaws.{within-both, states-fit}
+use Rattle.tasks.proofs.SetLaws.{within-both, states-by}
 
 -- a task's record: its kind, its deadline, its lists, and the rules between them
 pub record ValidTask (τ : Task) : Type 0 where
@@ -48,10 +48,6 @@ cond-else false n x e = (tt, e)
 cond-then : (b : Bool) (n : ℕ) → cond b 0 (suc n) ≡ 0 → T b
 cond-then true n e = tt
 cond-then false n e = let z : ⊥ = omega arith in absurd z
-
-nor : (a b : Bool) → T (not (a || b)) → T (not a) × T (not b)
-nor true b t = absurd t
-nor false b t = (tt, t)
 
 some : (n : ℕ) → T (not (eqb n 0)) → 0 < n
 some zero t = absurd t
@@ -89,13 +85,9 @@ valid-task τ v =
     )
 
 -- a record's fault, by where its number stands to the count
-fault-task : (s : Set) (k : ℕ) → k < s .count → faultAt s k ≡ faultOf (taskAt s k)
+fault-by : (s : Set) (k : ℕ) (b : Bool) → ltb k (s .count) ≡ b → faultAt s k ≡ cond b (faultOf (taskAt s k)) (cond (blank (taskAt s k)) 0 badRecord)
 unfolding faultAt
-fault-task s k h = ap (λ b. cond b (faultOf (taskAt s k)) (cond (blank (taskAt s k)) 0 badRecord)) (lt-ltb k (s .count) h)
-
-fault-beyond : (s : Set) (k : ℕ) → s .count ≤ k → faultAt s k ≡ cond (blank (taskAt s k)) 0 badRecord
-unfolding faultAt
-fault-beyond s k h = ap (λ b. cond b (faultOf (taskAt s k)) (cond (blank (taskAt s k)) 0 badRecord)) (le-ltb k (s .count) h)
+fault-by s k b e = ap (λ b. cond b (faultOf (taskAt s k)) (cond (blank (taskAt s k)) 0 badRecord)) e
 
 -- the records from i on are without fault where the test goes on past them
 faults-none : (s : Set) (k i m : ℕ) (t : Tested) → lowestFault s k i t ≡ States m
@@ -119,8 +111,8 @@ valid s m e =
       record {
         name = and-left (goodName (s .name)) _ n;
         count = c;
-        tasks = λ k h. task-valid (taskAt s k) (sym (fault-task s k h) ∙ f .0 k (omega arith) (omega arith));
-        blanks = λ k h l. cond-then (blank (taskAt s k)) _ (sym (fault-beyond s k h) ∙ f .0 k (omega arith) (omega arith));
+        tasks = λ k h. task-valid (taskAt s k) (sym (fault-by s k true (lt-ltb k (s .count) h)) ∙ f .0 k (omega arith) (omega arith));
+        blanks = λ k h l. cond-then (blank (taskAt s k)) _ (sym (fault-by s k false (le-ltb k (s .count) h)) ∙ f .0 k (omega arith) (omega arith));
         states = nltb→le 60000 (statesOf s) (cond-else (ltb 60000 (statesOf s)) _ 0 (b .0) .0);
       },
       cc,
@@ -144,42 +136,48 @@ pub passes : (s : Set) → Valid s → Passed s
 unfolding testSet
 passes s v =
     simp (T-true (goodName (s .name)) (v .name), le-leb 1 (s .count) (v .count .0), le-leb (s .count) 7 (v .count .1))
-    (none-faults s 7 0 (testStates s) (λ j _ h. ⊎-elim (task j) (beyond j h) (lt-or-le j (s .count))) ∙ states-fit s (v .states))
+    (none-faults s 7 0 (testStates s) (λ j _ h. ⊎-elim (task j) (beyond j h) (lt-or-le j (s .count))) ∙ states-by s false (le-ltb 60000 (statesOf s) (v .states)))
   where
     task : (j : ℕ) → j < s .count → faultAt s j ≡ 0
-    task j h = fault-task s j h ∙ valid-task (taskAt s j) (v .tasks j h)
+    task j h = fault-by s j true (lt-ltb j (s .count) h) ∙ valid-task (taskAt s j) (v .tasks j h)
 
     beyond : (j : ℕ) → j < 0 + 7 → s .count ≤ j → faultAt s j ≡ 0
-    beyond j l h = fault-beyond s j h ∙ ap (λ b. cond b 0 badRecord) (T-true (blank (taskAt s j)) (v .blanks j h (omega arith)))
+    beyond j l h = fault-by s j false (le-ltb j (s .count) h) ∙ ap (λ b. cond b 0 badRecord) (T-true (blank (taskAt s j)) (v .blanks j h (omega arith)))
 
--- a refusal of a set has a number of 1 to 6
-cond-le : (b : Bool) (x y m : ℕ) → x ≤ m → y ≤ m → cond b x y ≤ m
-cond-le true x y m p q = p
-cond-le false x y m p q = q
+-- a refusal of a set has a number of 3 to 6
+abbrev Number : ℕ → Type 0
+Number n = 0 < n → (3 ≤ n) × (n ≤ 6)
 
-refuse-number : (n p : ℕ) (t : Tested) (m : ℕ) → n ≤ m → ((f : Refusal) → t ≡ Refused f → (1 ≤ f .number) × (f .number ≤ m))
-    → (f : Refusal) → refuseOr n p t ≡ Refused f → (1 ≤ f .number) × (f .number ≤ m)
-refuse-number zero p t m h r f e = r f e
-refuse-number (suc n) p t m h r f e =
+none : Number 0
+none h = let z : ⊥ = omega arith in absurd z
+
+cond-number : (b : Bool) (x y : ℕ) → Number x → Number y → Number (cond b x y)
+cond-number true x y p q = p
+cond-number false x y p q = q
+
+refuse-number : (n p : ℕ) (t : Tested) → Number n → ((f : Refusal) → t ≡ Refused f → (3 ≤ f .number) × (f .number ≤ 6))
+    → (f : Refusal) → refuseOr n p t ≡ Refused f → (3 ≤ f .number) × (f .number ≤ 6)
+refuse-number zero p t h r f e = r f e
+refuse-number (suc n) p t h r f e =
     let q : record { number = suc n; place = p } ≡ f = cc in
-    subst (λ (g : Refusal). (1 ≤ g .number) × (g .number ≤ m)) q (omega arith, h)
+    subst (λ (g : Refusal). (3 ≤ g .number) × (g .number ≤ 6)) q (h (omega arith))
 
-fault-number : (s : Set) (i : ℕ) → faultAt s i ≤ 6
+fault-number : (s : Set) (i : ℕ) → Number (faultAt s i)
 unfolding faultAt faultOf
 fault-number s i =
     let τ = taskAt s i in
-    cond-le (ltb i (s .count)) _ _ 6
-    (cond-le (unfit τ) 3 _ 6 (omega arith) (cond-le (ltb (τ .deadline) (cmax τ)) 4 _ 6 (omega arith) (cond-le (ltb (shortestOf (τ .gaps)) (τ .deadline)) 5 0 6 (omega arith) (omega arith))))
-    (cond-le (blank τ) 0 3 6 (omega arith) (omega arith))
+    cond-number (ltb i (s .count)) _ _
+    (cond-number (unfit τ) 3 _ (λ _. (omega arith, omega arith)) (cond-number (ltb (τ .deadline) (cmax τ)) 4 _ (λ _. (omega arith, omega arith)) (cond-number (ltb (shortestOf (τ .gaps)) (τ .deadline)) 5 0 (λ _. (omega arith, omega arith)) none)))
+    (cond-number (blank τ) 0 3 none (λ _. (omega arith, omega arith)))
 
-pub refused-number : (s : Set) (f : Refusal) → testSet s ≡ Refused f → (1 ≤ f .number) × (f .number ≤ 6)
+pub refused-number : (s : Set) (f : Refusal) → testSet s ≡ Refused f → (3 ≤ f .number) × (f .number ≤ 6)
 unfolding testSet testStates lowestFault
 refused-number s =
-    refuse-number _ 0 _ 6 (cond-le (goodName (s .name) && within 1 7 (s .count)) 0 3 6 (omega arith) (omega arith)) (faults 7 0)
+    refuse-number _ 0 _ (cond-number (goodName (s .name) && within 1 7 (s .count)) 0 3 none (λ _. (omega arith, omega arith))) (faults 7 0)
   where
-    states : (f : Refusal) → testStates s ≡ Refused f → (1 ≤ f .number) × (f .number ≤ 6)
-    states = refuse-number _ 0 (States (statesOf s)) 6 (cond-le (ltb 60000 (statesOf s)) 6 0 6 (omega arith) (omega arith)) (λ f e. let z : _≡_ {A = ℕ} 0 1 = cc in absurd (omega arith))
+    states : (f : Refusal) → testStates s ≡ Refused f → (3 ≤ f .number) × (f .number ≤ 6)
+    states = refuse-number _ 0 (States (statesOf s)) (cond-number (ltb 60000 (statesOf s)) 6 0 (λ _. (omega arith, omega arith)) none) (λ f e. let z : _≡_ {A = ℕ} 0 1 = cc in absurd (omega arith))
 
-    faults : (k i : ℕ) → (f : Refusal) → lowestFault s k i (testStates s) ≡ Refused f → (1 ≤ f .number) × (f .number ≤ 6)
+    faults : (k i : ℕ) → (f : Refusal) → lowestFault s k i (testStates s) ≡ Refused f → (3 ≤ f .number) × (f .number ≤ 6)
     faults zero i = states
-    faults (suc k) i = refuse-number (faultAt s i) (suc i) _ 6 (fault-number s i) (faults k (suc i))
+    faults (suc k) i = refuse-number (faultAt s i) (suc i) _ (fault-number s i) (faults k (suc i))

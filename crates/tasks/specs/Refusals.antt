@@ -46,6 +46,10 @@ tooManyStates = 6
 abbrev pub bufferTooShort : ℕ
 bufferTooShort = 7
 
+-- a lent buffer of fewer than the n bytes needed
+abbrev pub short : ℕ → Refusal
+short n = record { number = bufferTooShort; place = n }
+
 -- no safe schedule
 abbrev pub noSafeSchedule : ℕ
 noSafeSchedule = 8

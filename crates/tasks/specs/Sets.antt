@@ -2,9 +2,9 @@
 use mathlib.Core.Bool.{Bool, true, not, _&&_, _||_, cond}
 use mathlib.Core.List.{List, [], _∷_}
 use mathlib.Core.Path.{_≡_}
-use Prim.Native.Nat.{ℕ, zero, suc, _+_, _*_}
+use Prim.Native.Nat.{ℕ, zero, suc, _+_, _*_, _<_}
 use lib.Dec.{eqb, leb, ltb}
-use lib.ListN.{getD, drop}
+use lib.ListN.{length, getD, drop}
 use Rattle.tasks.specs.declared.sets.Task.{Task}
 use Rattle.tasks.specs.declared.sets.Set.{Set}
 use Rattle.tasks.specs.declared.sets.Tested.{Tested}
@@ -30,7 +30,7 @@ unfoldable pub zeros : List ℕ → Bool
 zeros [] = true
 zeros (b ∷ l) = eqb b 0 && zeros l
 
--- a name of at least one character, its bytes beyond the last zero
+-- a name of at least one character, its bytes beyond the last zero; that it has 16 bytes is the record's type
 unfoldable pub goodName : List ℕ → Bool
 goodName name = ltb 0 (characters name) && zeros (drop (characters name) name)
 
@@ -68,6 +68,12 @@ faultOf τ =
 -- the record of task i + 1
 abbrev pub taskAt : Set → ℕ → Task
 taskAt s i = getD (s .tasks) i noTask
+
+-- a set as the code holds it: a name of 16 bytes, seven records, lists of 16 bits
+pub record Sized (s : Set) : Type 0 where
+  pub name : length (s .name) ≡ 16
+  pub tasks : length (s .tasks) ≡ 7
+  pub lists : (k : ℕ) → k < 7 → (taskAt s k .runs < 65536) × (taskAt s k .gaps < 65536)
 
 -- what that record is refused with, 0 for nothing: beyond the count it is to be all zero
 unfoldable pub faultAt : Set → ℕ → ℕ

@@ -1,38 +1,30 @@
 // Worked cases of lists, names, tasks and sets, a line each.
-use libc::STDOUT_FILENO;
+use cases::lines::put;
+use cases::lines::put_number;
+use cases::sets::V1;
+use cases::sets::V2;
+use cases::sets::V3;
+use cases::sets::V4;
+use cases::sets::V5;
+use cases::sets::V13;
+use cases::sets::V14;
+use cases::sets::V15;
+use cases::sets::V16;
+use cases::sets::all;
+use cases::sets::blank;
+use cases::sets::hard;
+use cases::sets::named;
+use cases::sets::one;
+use cases::sets::set;
+use cases::sets::soft;
+use cases::sets::task;
+use cases::sets::three;
+use cases::sets::two;
 use tasks::lists;
 use tasks::sets;
 use tasks::sets::Set;
 use tasks::sets::Task;
 use tasks::sets::Tested;
-
-// A list of one value is named after it.
-const V1: u16 = 1;
-
-const V2: u16 = 2;
-
-const V3: u16 = 4;
-
-const V4: u16 = 8;
-
-const V5: u16 = 16;
-
-const V13: u16 = 4096;
-
-const V14: u16 = 8192;
-
-const V15: u16 = 16384;
-
-const V16: u16 = 32768;
-
-fn put(text: &[u8]) {
-    io::write_all(STDOUT_FILENO, text);
-}
-
-fn put_number(text: &[u8], n: u64) {
-    put(text);
-    io::print_decimal(STDOUT_FILENO, n);
-}
 
 fn put_value(list: u16, v: u32) {
     if lists::has(list, v) {
@@ -102,69 +94,15 @@ fn show_name(label: &[u8], name: [u8; 16]) {
     put_tested(named(name, one(hard(1, V1, V1))));
 }
 
-fn task(kind: u8, deadline: u8, runs: u16, gaps: u16) -> Task {
-    Task {
-        kind: kind,
-        deadline: deadline,
-        runs: runs,
-        gaps: gaps,
-    }
-}
-
-fn soft(deadline: u8, runs: u16, gaps: u16) -> Task {
-    task(0, deadline, runs, gaps)
-}
-
-fn hard(deadline: u8, runs: u16, gaps: u16) -> Task {
-    task(1, deadline, runs, gaps)
-}
-
-fn blank() -> Task {
-    task(0, 0, 0, 0)
-}
-
-fn set(count: u8, tasks: [Task; 7]) -> Set {
-    Set {
-        name: *b"CASE\0\0\0\0\0\0\0\0\0\0\0\0",
-        count: count,
-        tasks: tasks,
-    }
-}
-
-fn one(t: Task) -> Set {
-    beside(t, blank())
-}
-
-fn two(a: Task, b: Task) -> Set {
-    let z = blank();
-    set(2, [a, b, z, z, z, z, z])
-}
-
-fn three(a: Task, b: Task, c: Task) -> Set {
-    let z = blank();
-    set(3, [a, b, c, z, z, z, z])
-}
-
 fn four(t: Task) -> Set {
     let z = blank();
     set(4, [t, t, t, t, z, z, z])
-}
-
-// Seven times the same record.
-fn all(count: u8, t: Task) -> Set {
-    set(count, [t; 7])
 }
 
 // One task, and a record 7.
 fn beside(t: Task, last: Task) -> Set {
     let z = blank();
     set(1, [t, z, z, z, z, z, last])
-}
-
-fn named(name: [u8; 16], s: Set) -> Set {
-    let mut r = s;
-    r.name = name;
-    r
 }
 
 fn list_cases() {

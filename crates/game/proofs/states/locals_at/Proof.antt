@@ -1,11 +1,12 @@
 -- The local numbers of the first k tasks, and the index of those left.
 use borrow.Author.Needs.{needs}
 use borrow.Author.Count.{below-none}
-use mathlib.Core.Path.{_≡_, refl, sym}
+use mathlib.Core.Path.{_≡_, refl, sym, _∙_}
 use Prim.Native.Nat.{ℕ, _-_, _/_, _≤_, _<_}
 use native.Mathlib.Nat.{div-one, mod-lt, le-trans}
 use native.Mathlib.Omega.{arith}
-use lib.ListN.{length, getD, length-set}
+use lib.ListN.{length, getD, length-set, getD-replicate}
+use lib.Seq.{getD-set-other}
 use Rattle.tasks.specs.Sets.{statesTo}
 use Rattle.tasks.proofs.Valid.{Valid, passed-valid}
 use Rattle.game.specs.States.{localAt}
@@ -14,14 +15,14 @@ use Rattle.game.proofs.states.locals_at.Statement.{statement}
 use Rattle.game.proofs.states.locals_at.Tie as tie
 
 abbrev Inv-loop : tie.InvT-loop
-Inv-loop i s d₀ rest₀ k₀ d rest k = (k ≤ s .count) × Valid s × (length d ≡ 7) × (rest ≡ i / statesTo s k) × ((j : ℕ) → j < k → getD d j 0 ≡ localAt s i j)
+Inv-loop i s d₀ rest₀ k₀ d rest k = (k ≤ s .count) × Valid s × (length d ≡ 7) × (rest ≡ i / statesTo s k) × ((j : ℕ) → j < k → getD d j 0 ≡ localAt s i j) × ((j : ℕ) → k ≤ j → j < 7 → getD d j 0 ≡ 0)
 
 abbrev μ-loop : tie.MeasureT-loop
 μ-loop i s d₀ rest₀ k₀ d rest k = s .count - k
 
 loop-holds : tie.Need-loop-holds Inv-loop μ-loop
 unfolding statesTo
-loop-holds c = (omega arith, passed-valid (c .args .t1) (c .pre), refl, sym (div-one (c .args .i)), below-none _)
+loop-holds c = (omega arith, passed-valid (c .args .t1) (c .pre), refl, sym (div-one (c .args .i)), below-none _, λ j _ h. getD-replicate 7 j 0 0 h)
 
 cast-loop : tie.Need-cast-loop Inv-loop μ-loop
 cast-loop c = search needs
@@ -73,10 +74,11 @@ loop-again c = let l = c .before .before .before .loop in
       simp length-set (l .inv .2),
       rest-step (a .t1) (a .i) (l .k) (n .result) (l .rest) (l .inv .3) (n .ensures .0),
       locals-step (a .t1) (a .i) (l .k) (n .result) (l .rest) (l .inv .3) (n .ensures .0) (l .d) h (l .inv .4),
+      λ j p q. getD-set-other (l .d) (l .k) j _ 0 (λ e. omega arith) ∙ l .inv .5 j (omega arith) q,
     )
 
 returns : tie.Need-returns Inv-loop μ-loop
-returns c = λ k h. c .before .loop .inv .4 k (omega arith)
+returns c = let l = c .before .loop in (λ k h. l .inv .4 k (omega arith), λ k h. l .inv .5 k (omega arith))
 
 pub locals-at-spec : {M : Type 1} → statement M
 locals-at-spec =

@@ -1,13 +1,10 @@
 -- The summary of the moves.
-use mathlib.Core.Bool.{true, false}
-use mathlib.Core.Path.{sym, subst}
 use Prim.Native.Nat.{_+_, _/_, _%_, _≤_, _<_}
 use native.Mathlib.Nat.{div-le-self, mod-lt}
 use native.Mathlib.Omega.{arith}
-use lib.Dec.{T}
 use Rattle.tasks.proofs.ListLaws.{longest-le}
 use Rattle.game.proofs.StateLaws.{locals-le}
-use Rattle.game.proofs.TickLaws.{summary-every}
+use Rattle.game.proofs.TickLaws.{summarised}
 use borrow.Author.Needs.{needs}
 use Rattle.game.proofs.ticks.moves_of.Statement.{statement}
 use Rattle.game.proofs.ticks.moves_of.Tie as tie
@@ -81,22 +78,21 @@ both-requires-4 : tie.Need-both-requires-4
 both-requires-4 c κs = search needs
 
 returns : tie.Need-returns
-returns c = λ p. let t = c .before .before .before .before in
+returns c = let t = c .before .before .before .before in
     let f = t .before .before .before .before .before .before in
     let a = f .before .args in
     let h = f .before .pre in
-    simp (c .both4 .ensures, c .before .both3 .ensures, c .before .before .both2 .ensures, c .before .before .before .has2 .ensures, t .if1 .taken, t .before .longest2 .ensures, t .before .before .has .ensures, t .before .before .before .both .ensures, f .longest .ensures)
-    (summary-every (a .t) (a .local) (h .0) p true (λ _. h .1 (subst T (sym (t .if1 .taken)) tt)))
+    summarised (a .t) (a .run) (a .local) (h .0) (h .1) _ (simp (c .both4 .ensures, c .before .both3 .ensures, c .before .before .both2 .ensures, c .before .before .before .has2 .ensures, t .if1 .taken, t .before .longest2 .ensures, t .before .before .has .ensures, t .before .before .before .both .ensures, f .longest .ensures))
 
 both-requires-5 : tie.Need-both-requires-5
 both-requires-5 c κs = search needs
 
 returns-2 : tie.Need-returns-2
-returns-2 c = λ p. let t = c .before in
+returns-2 c = let t = c .before in
     let f = t .before .before .before .before .before .before in
     let a = f .before .args in
-    simp (c .both5 .ensures, t .if1 .left, t .before .longest2 .ensures, t .before .before .has .ensures, t .before .before .before .both .ensures, f .longest .ensures)
-    (summary-every (a .t) (a .local) (f .before .pre .0) p false absurd)
+    let h = f .before .pre in
+    summarised (a .t) (a .run) (a .local) (h .0) (h .1) _ (simp (c .both5 .ensures, t .if1 .left, t .before .longest2 .ensures, t .before .before .has .ensures, t .before .before .before .both .ensures, f .longest .ensures))
 
 pub moves-of-spec : {M : Type 1} → statement M
 moves-of-spec =

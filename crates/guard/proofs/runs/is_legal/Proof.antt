@@ -10,7 +10,7 @@ use Rattle.guard.proofs.runs.is_legal.Tie as tie
 
 returns : tie.Need-returns
 unfolding legalFor
-returns c = sym (ap (legalFor _ _) (c .if1 .taken))
+returns c = sym (ap (legalFor (c .before .args .t1) (c .before .args .t2)) (c .if1 .taken))
 
 cast-if2 : tie.Need-cast-if2
 cast-if2 c = search needs

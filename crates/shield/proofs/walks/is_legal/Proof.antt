@@ -13,7 +13,7 @@ use Rattle.shield.proofs.walks.is_legal.Tie as tie
 
 returns : tie.Need-returns
 unfolding legalIn
-returns c = sym (ap (legalIn _ _) (c .if1 .taken))
+returns c = sym (ap (legalIn (c .before .args .t1) (c .before .args .d .now)) (c .if1 .taken))
 
 cast-if2 : tie.Need-cast-if2
 cast-if2 c = search needs

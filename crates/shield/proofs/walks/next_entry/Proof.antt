@@ -41,7 +41,7 @@ loop-holds c = search needs
 
 still-fine-requires : tie.Need-still-fine-requires Inv-loop μ-loop
 still-fine-requires c κs = let b = c .before .before .before .before .before .before .before in
-    ((b .pre .0, b .pre .2, c .before .loop-test .taken), λ j h. omega (arith, c .before .before .before .locals-at .ensures j h, local-at-lt (b .args .s) (passed-valid (b .args .s) (b .pre .0)) (b .args .i) j h))
+    ((b .pre .0, b .pre .2, c .before .loop-test .taken), λ j h. omega (arith, c .before .before .before .locals-at .ensures .0 j h, local-at-lt (b .args .s) (passed-valid (b .args .s) (b .pre .0)) (b .args .i) j h))
 
 only-requires : tie.Need-only-requires Inv-loop μ-loop
 only-requires c κs = search needs
@@ -66,7 +66,7 @@ unfolding nextEntry
 returns-2 c = let b = c .before .before .before .before .before .before in
     let e : c .before .loop .choice ≡ 8 = omega arith in
     c .before .loop .inv .1 ∙ ap (λ n. marks n (still (b .args .s) (c .before .before .locals-at .result) (b .args .table .now) (b .args .i))) e
-    ∙ marks-cong 8 _ _ (λ k h. ap (λ x. names (entryAt (b .args .table .now) (b .args .i)) k && x) (fine-at (b .args .s) (c .before .before .locals-at .result) (b .pre .0) (b .args .i) (c .before .before .locals-at .ensures) (b .args .table .now) k))
+    ∙ marks-cong 8 _ _ (λ k h. ap (λ x. names (entryAt (b .args .table .now) (b .args .i)) k && x) (fine-at (b .args .s) (c .before .before .locals-at .result) (b .pre .0) (b .args .i) (c .before .before .locals-at .ensures .0) (b .args .table .now) k))
 
 pub next-entry-spec : {M : Type 1} → statement M
 next-entry-spec =

@@ -1,11 +1,13 @@
 -- A character, and zero bytes beyond the last.
+use borrow.Author.Tests.{eq-eqb, ne-eqb}
 use borrow.Author.Needs.{needs}
 use mathlib.Core.Path.{_≡_, sym, ap, _∙_}
+use mathlib.Core.Bool.{true, false}
 use Prim.Native.Nat.{_-_, _≤_}
 use native.Mathlib.Omega.{arith}
 use lib.ListN.{length, drop}
 use Rattle.tasks.specs.Sets.{characters, zeros}
-use Rattle.tasks.proofs.SetLaws.{characters-le, name-none, name-some, zeros-stop, zeros-more, zeros-end}
+use Rattle.tasks.proofs.SetLaws.{characters-le, name-none, name-some, zeros-here, zeros-end}
 use Rattle.tasks.proofs.sets.name_fits.Statement.{statement}
 use Rattle.tasks.proofs.sets.name_fits.Tie as tie
 
@@ -32,7 +34,7 @@ array-read-if2 c = search needs
 returns-2 : tie.Need-returns-2 Inv-loop μ-loop
 returns-2 c = let a = c .before .before .before .before .before .args .t1 in
     let h : length a ≡ 16 = search needs in
-    sym (name-some a (λ e. c .before .before .before .if1 .left (c .before .before .before .before .name-length .ensures ∙ e)) ∙ c .before .before .loop .inv .1 ∙ zeros-stop a (c .before .before .loop .i) (omega arith) (c .if2 .taken))
+    sym (name-some a (λ e. c .before .before .before .if1 .left (c .before .before .before .before .name-length .ensures ∙ e)) ∙ c .before .before .loop .inv .1 ∙ zeros-here a (c .before .before .loop .i) (omega arith) false (ne-eqb _ 0 (c .if2 .taken)))
 
 add-i : tie.Need-add-i Inv-loop μ-loop
 add-i c = search needs
@@ -43,7 +45,7 @@ loop-less c = search needs
 loop-again : tie.Need-loop-again Inv-loop μ-loop
 loop-again c = let a = c .before .before .before .before .before .args .t1 in
     let h : length a ≡ 16 = search needs in
-    (omega arith, c .before .before .loop .inv .1 ∙ zeros-more a (c .before .before .loop .i) (omega arith) (c .if2 .left))
+    (omega arith, c .before .before .loop .inv .1 ∙ zeros-here a (c .before .before .loop .i) (omega arith) true (eq-eqb _ 0 (c .if2 .left)))
 
 returns-3 : tie.Need-returns-3 Inv-loop μ-loop
 returns-3 c = let a = c .before .before .before .before .args .t1 in

@@ -1,12 +1,13 @@
 -- The characters before n, and those from n on.
 use borrow.Author.Needs.{needs}
 use mathlib.Core.Path.{_≡_, sym, _∙_}
+use mathlib.Core.Bool.{true, false}
 use Prim.Native.Nat.{_+_, _-_, _≤_}
 use lib.ListN.{length, drop}
 use native.Mathlib.Omega.{arith}
 use borrow.Author.Tests.{not-true, not-false}
 use Rattle.tasks.specs.Sets.{characters}
-use Rattle.tasks.proofs.SetLaws.{characters-stop, characters-more, characters-end}
+use Rattle.tasks.proofs.SetLaws.{characters-here, characters-end}
 use Rattle.tasks.proofs.sets.name_length.Statement.{statement}
 use Rattle.tasks.proofs.sets.name_length.Tie as tie
 
@@ -27,7 +28,7 @@ name-byte-requires c κs = search needs
 
 returns : tie.Need-returns Inv-loop μ-loop
 returns c = let h : length (c .before .before .before .before .args .t1) ≡ 16 = search needs in
-    omega (arith, characters-stop (c .before .before .before .before .args .t1) (c .before .before .before .loop .n) (omega arith) (sym (c .before .name-byte .ensures) ∙ not-true _ (c .if1 .taken)))
+    omega (arith, characters-here (c .before .before .before .before .args .t1) (c .before .before .before .loop .n) (omega arith) false (sym (c .before .name-byte .ensures) ∙ not-true _ (c .if1 .taken)))
 
 add-n : tie.Need-add-n Inv-loop μ-loop
 add-n c = search needs
@@ -37,7 +38,7 @@ loop-less c = search needs
 
 loop-again : tie.Need-loop-again Inv-loop μ-loop
 loop-again c = let h : length (c .before .before .before .before .args .t1) ≡ 16 = search needs in
-    omega (arith, characters-more (c .before .before .before .before .args .t1) (c .before .before .before .loop .n) (omega arith) (sym (c .before .name-byte .ensures) ∙ not-false _ (c .if1 .left)))
+    omega (arith, characters-here (c .before .before .before .before .args .t1) (c .before .before .before .loop .n) (omega arith) true (sym (c .before .name-byte .ensures) ∙ not-false _ (c .if1 .left)))
 
 returns-2 : tie.Need-returns-2 Inv-loop μ-loop
 returns-2 c = let h : length (c .before .before .args .t1) ≡ 16 = search needs in

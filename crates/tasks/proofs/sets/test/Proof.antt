@@ -1,14 +1,14 @@
 -- The records before i are without fault.
 use borrow.Author.Needs.{needs}
-use borrow.Author.Tests.{not-true, not-false}
-use mathlib.Core.Bool.{true, false}
+use borrow.Author.Tests.{not-true, not-false, lt-ltb, le-ltb}
 use mathlib.Core.Path.{_≡_, sym, ap, subst, _∙_}
+use mathlib.Core.Bool.{true, false}
 use Prim.Native.Nat.{_+_, _-_, _≤_}
 use native.Mathlib.Omega.{arith}
 use lib.Dec.{T}
 use Rattle.tasks.specs.declared.sets.Tested.the-variants.{States, Refused}
-use Rattle.tasks.specs.Sets.{lowestFault, testStates, testSet}
-use Rattle.tasks.proofs.SetLaws.{within-both, test-unnamed, test-counted, fault-here, fault-none, fault-end, states-over, states-fit}
+use Rattle.tasks.specs.Sets.{statesOf, lowestFault, testStates, testSet}
+use Rattle.tasks.proofs.SetLaws.{within-both, test-unnamed, test-counted, fault-here, fault-none, fault-end, states-by}
 use Rattle.tasks.proofs.sets.test.Statement.{statement}
 use Rattle.tasks.proofs.sets.test.Tie as tie
 
@@ -64,14 +64,14 @@ states-requires c κs =
 
 returns-4 : tie.Need-returns-4 Inv-loop μ-loop
 returns-4 c = let s = c .before .before .before .before .before .before .before .before .before .args .s in
-    sym (c .before .before .before .loop .inv .1 ∙ fault-end s (c .before .before .before .loop .i) (testStates s) (omega arith) ∙ states-over s (omega (arith, c .before .states .ensures)))
+    sym (c .before .before .before .loop .inv .1 ∙ fault-end s (c .before .before .before .loop .i) (testStates s) (omega arith) ∙ states-by s true (lt-ltb 60000 (statesOf s) (omega (arith, c .before .states .ensures))))
 
 cast-t15 : tie.Need-cast-t15 Inv-loop μ-loop
 cast-t15 c = search needs
 
 returns-5 : tie.Need-returns-5 Inv-loop μ-loop
 returns-5 c = let s = c .before .before .before .before .before .before .before .before .before .args .s in
-    sym (c .before .before .before .loop .inv .1 ∙ fault-end s (c .before .before .before .loop .i) (testStates s) (omega arith) ∙ states-fit s (omega (arith, c .before .states .ensures)) ∙ ap States (sym (c .before .states .ensures)))
+    sym (c .before .before .before .loop .inv .1 ∙ fault-end s (c .before .before .before .loop .i) (testStates s) (omega arith) ∙ states-by s false (le-ltb 60000 (statesOf s) (omega (arith, c .before .states .ensures))) ∙ ap States (sym (c .before .states .ensures)))
 
 pub test-spec : {M : Type 1} → statement M
 test-spec =

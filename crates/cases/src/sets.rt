@@ -1,0 +1,92 @@
+// Tasks and sets of the worked cases.
+use tasks::sets::Set;
+use tasks::sets::Task;
+
+// A list of one value is named after it.
+pub const V1: u16 = 1;
+
+pub const V2: u16 = 2;
+
+pub const V3: u16 = 4;
+
+pub const V4: u16 = 8;
+
+pub const V5: u16 = 16;
+
+pub const V13: u16 = 4096;
+
+pub const V14: u16 = 8192;
+
+pub const V15: u16 = 16384;
+
+pub const V16: u16 = 32768;
+
+pub fn task(kind: u8, deadline: u8, runs: u16, gaps: u16) -> Task {
+    Task {
+        kind: kind,
+        deadline: deadline,
+        runs: runs,
+        gaps: gaps,
+    }
+}
+
+pub fn soft(deadline: u8, runs: u16, gaps: u16) -> Task {
+    task(0, deadline, runs, gaps)
+}
+
+pub fn hard(deadline: u8, runs: u16, gaps: u16) -> Task {
+    task(1, deadline, runs, gaps)
+}
+
+pub fn blank() -> Task {
+    task(0, 0, 0, 0)
+}
+
+pub fn set(count: u8, tasks: [Task; 7]) -> Set {
+    Set {
+        name: *b"CASE\0\0\0\0\0\0\0\0\0\0\0\0",
+        count: count,
+        tasks: tasks,
+    }
+}
+
+pub fn named(name: [u8; 16], s: Set) -> Set {
+    let mut r = s;
+    r.name = name;
+    r
+}
+
+pub fn one(t: Task) -> Set {
+    let z = blank();
+    set(1, [t, z, z, z, z, z, z])
+}
+
+pub fn two(a: Task, b: Task) -> Set {
+    let z = blank();
+    set(2, [a, b, z, z, z, z, z])
+}
+
+pub fn three(a: Task, b: Task, c: Task) -> Set {
+    let z = blank();
+    set(3, [a, b, c, z, z, z, z])
+}
+
+// Seven times the same record.
+pub fn all(count: u8, t: Task) -> Set {
+    set(count, [t; 7])
+}
+
+pub fn pair() -> Set {
+    named(
+        *b"PAIR\0\0\0\0\0\0\0\0\0\0\0\0",
+        two(hard(2, V1, V2), hard(2, V1, V2)),
+    )
+}
+
+// Source 000's example 1.
+pub fn example() -> Set {
+    named(
+        *b"EXAMPLE-1\0\0\0\0\0\0\0",
+        two(hard(2, V1, V3), soft(2, V1 + V2, V3)),
+    )
+}
