@@ -4,4 +4,5 @@ pub mod WalkTurn
 pub mod FineLaws
 pub mod TestLaws
 pub mod BuildLaws
+pub mod Done
 pub mod Tested

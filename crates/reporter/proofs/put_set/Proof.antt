@@ -1,0 +1,63 @@
+-- What the builder answers, and what it leaves.
+use native.Mathlib.Omega.{arith}
+use borrow.Author.Needs.{needs}
+use Rattle.reporter.proofs.Reports.{built-done, tells-built}
+use Rattle.reporter.proofs.put_set.Statement.{statement}
+use Rattle.reporter.proofs.put_set.Tie as tie
+
+build-requires : tie.Need-build-requires
+build-requires c κs = search needs
+
+enum-known-safe : tie.Need-enum-known-safe
+enum-known-safe c = search needs
+
+put-done-requires : tie.Need-put-done-requires
+put-done-requires c κs =
+    let a = c .before .before .before .before .before .before .before .before .before .before .before .before .before .before .args in
+    built-done (a .set) (a .table .now) (a .work .now) _ _ _ _ _ _ (c .before .before .before .before .before .before .before .before .before .build .ensures) (c .before .before .before .safe .given .1)
+
+enum-known-f : tie.Need-enum-known-f
+enum-known-f c = search needs
+
+put-refused-line-requires : tie.Need-put-refused-line-requires
+put-refused-line-requires c κs = search needs
+
+same-length : tie.Need-same-length
+same-length c = search needs
+
+same-length-2 : tie.Need-same-length-2
+same-length-2 c = search needs
+
+returns : tie.Need-returns
+returns c =
+    let a = c .before .before .before .before .before .before .before .before .before .before .before .before .before .before .before .args in
+    let r = c .put-done .ensures in
+    tells-built (a .set) (a .table .now) (a .work .now) _ _ _ _ (c .before .before .before .before .before .before .before .before .before .before .build .ensures) (c .before .before .before .before .safe .given .1) (r .0) (r .1)
+
+same-length-3 : tie.Need-same-length-3
+same-length-3 c = search needs
+
+same-length-4 : tie.Need-same-length-4
+same-length-4 c = search needs
+
+returns-2 : tie.Need-returns-2
+returns-2 c =
+    let a = c .before .before .before .before .before .before .before .before .before .before .before .before .before .before .args in
+    let r = c .put-refused-line .ensures in
+    tells-built (a .set) (a .table .now) (a .work .now) _ _ _ _ (c .before .before .before .before .before .before .before .before .before .build .ensures) (c .before .before .before .f .given .1) (r .0) (omega (arith, r .1))
+
+pub put-set-spec : {M : Type 1} → statement M
+put-set-spec =
+    tie.close
+    (tie.spec
+    build-requires
+    enum-known-safe
+    put-done-requires
+    enum-known-f
+    put-refused-line-requires
+    same-length
+    same-length-2
+    returns
+    same-length-3
+    same-length-4
+    returns-2)
