@@ -24,7 +24,10 @@ fn of_set(s: Set, i: u16) -> u32 {
     let t = s.tasks[(i % 7) as usize];
     let b = s.name[(i % 16) as usize];
     let head = sum(s.count as u32, b as u32);
-    sum(head, sum(t.deadline as u32, sum(t.runs as u32, t.gaps as u32)))
+    sum(
+        head,
+        sum(t.deadline as u32, sum(t.runs as u32, t.gaps as u32)),
+    )
 }
 
 fn of_read(r: SheetRead, i: u16) -> u32 {
