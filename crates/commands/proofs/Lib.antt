@@ -1,3 +1,4 @@
 pub mod TextLaws
 pub mod WordLaws
 pub mod LineLaws
+pub mod Mangled

@@ -4,3 +4,4 @@ pub mod Buffers
 pub mod Forms
 pub mod Lines
 pub mod Kinds
+pub mod Mangled

@@ -8,13 +8,18 @@ use guard::runs::Run;
 use shield::builder;
 
 // Sets that are taken, and sets that are refused before all else.
-pub fn starts() {
+pub fn starts_taken() {
     let t = sets::hard(1, sets::V1, sets::V1);
     let z = sets::blank();
     show::start(b"PAIR, 5", sets::pair(), 5);
     show::start(b"PAIR, 4294967295", sets::pair(), 4294967295);
     show::start(b"hard 1 1 1, 0", made::counted(1, t, z, z), 0);
     show::start(b"seven of soft 1 1 1, 1", made::many(), 1);
+}
+
+pub fn starts_refused() {
+    let t = sets::hard(1, sets::V1, sets::V1);
+    let z = sets::blank();
     show::start(b"hard 2 3 3, 5", made::late(), 5);
     show::start(b"no task, 5", made::counted(0, t, z, z), 5);
     show::start(
@@ -53,41 +58,53 @@ fn ask_built(label: &[u8], r: Run, proposal: u8) {
 }
 
 // Given back, or substituted.
-pub fn proposals() {
+pub fn proposals_at_0() {
     let fresh = made::started(sets::pair(), 5);
-    let first = made::pair_at(made::empty(0), made::holds(0, 0), 5);
-    let last = made::pair_at(made::empty(1), made::empty(1), 5);
     ask_built(b"PAIR at 0, 0", fresh, 0);
     ask_built(b"PAIR at 0, 1", fresh, 1);
     ask_built(b"PAIR at 0, 2", fresh, 2);
+}
+
+pub fn proposals_at_1() {
+    let first = made::pair_at(made::empty(0), made::holds(0, 0), 5);
     ask_built(b"PAIR at 1, 0", first, 0);
     ask_built(b"PAIR at 1, 1", first, 1);
     ask_built(b"PAIR at 1, 2", first, 2);
+}
+
+pub fn proposals_at_15() {
+    let last = made::pair_at(made::empty(1), made::empty(1), 5);
     ask_built(b"PAIR at 15, 0", last, 0);
     ask_built(b"PAIR at 15, 1", last, 1);
     ask_built(b"PAIR at 15, 2", last, 2);
 }
 
 // 16 looks at the whole entry, whatever is proposed, and does not judge safety.
-pub fn entries() {
-    let fresh = made::started(sets::pair(), 5);
-    let first = made::pair_at(made::empty(0), made::holds(0, 0), 5);
+pub fn entries_unsafe() {
     let tight = made::pair_at(made::holds(1, 0), made::holds(1, 0), 5);
     ask_built(b"PAIR at 10, 1", tight, 1);
     ask_with(b"PAIR at 10 with entry 4, 1", tight, 10, 4, 1);
     ask_with(b"PAIR at 10 with entry 1, 2", tight, 10, 1, 2);
+}
+
+pub fn entries_not_runnable() {
+    let first = made::pair_at(made::empty(0), made::holds(0, 0), 5);
     ask_with(b"PAIR at 1 with entry 7, 2", first, 1, 7, 2);
     ask_with(b"PAIR at 1 with entry 2, 1", first, 1, 2, 1);
+}
+
+pub fn entries_at_0() {
+    let fresh = made::started(sets::pair(), 5);
+    let late = made::pair_at(made::holds(1, 0), made::holds(0, 0), 5);
     ask_with(b"PAIR at 0 with entry 0, 1", fresh, 0, 0, 1);
     ask_with(b"PAIR at 0 with entry 15, 1", fresh, 0, 15, 1);
     ask_with(b"PAIR at 0 with entry 130, 1", fresh, 0, 130, 1);
     ask_with(b"PAIR at 0 with entry 7, 0", fresh, 0, 7, 0);
-    let late = made::pair_at(made::holds(1, 0), made::holds(0, 0), 5);
     ask_with(b"PAIR at 2 with entry 6, 0", late, 2, 6, 0);
 }
 
 // Two faults at once: the earlier number of 7, 21, 14, 20, 15, 16 is given.
-pub fn ask_order() {
+pub fn asks_short() {
     let fresh = made::started(sets::pair(), 5);
     let waits = made::awaiting(fresh, 1);
     let mangled = made::totalled(fresh, 0, 1);
@@ -104,6 +121,12 @@ pub fn ask_order() {
     show::ask(b"7 and 14", sets::pair(), &[6; 15], waits, 1);
     show::ask(b"7 and 20", sets::pair(), &[6; 15], used, 1);
     show::ask(b"7 and 15", sets::pair(), &[6; 15], fresh, 3);
+}
+
+pub fn asks_unfit() {
+    let fresh = made::started(sets::pair(), 5);
+    let mangled = made::totalled(fresh, 0, 1);
+    let used = made::totalled(fresh, 16777216, 0);
     ask_built(b"21", mangled, 1);
     ask_built(
         b"21 and 14",
@@ -112,12 +135,26 @@ pub fn ask_order() {
     );
     ask_built(b"21 and 14 and 20", made::awaiting(used, 0), 1);
     ask_with(b"21 and 15 and 16", mangled, 0, 0, 3);
+}
+
+pub fn asks_awaited() {
+    let fresh = made::started(sets::pair(), 5);
+    let waits = made::awaiting(fresh, 1);
     ask_built(b"14", waits, 1);
     ask_built(b"14 and 15", waits, 3);
     ask_with(b"14 and 16", waits, 0, 0, 1);
+}
+
+pub fn asks_used_up() {
+    let fresh = made::started(sets::pair(), 5);
+    let used = made::totalled(fresh, 16777216, 0);
     ask_built(b"20", used, 1);
     ask_built(b"20 and 15", used, 3);
     ask_with(b"20 and 16", used, 0, 0, 1);
+}
+
+pub fn asks_refused() {
+    let fresh = made::started(sets::pair(), 5);
     ask_built(b"15", fresh, 3);
     ask_built(b"15, 255", fresh, 255);
     ask_with(b"15 and 16", fresh, 0, 0, 3);

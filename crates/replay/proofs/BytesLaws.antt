@@ -1,12 +1,15 @@
 -- Laws of bytes that are filled, put in and summed, a byte at a time.
+use mathlib.Core.Bool.{Bool, true, false}
 use mathlib.Core.List.{List, [], _∷_}
 use mathlib.Core.Path.{_≡_, refl, ap}
-use Prim.Native.Nat.{ℕ, zero, suc, _+_, _-_, _*_, _%_, _<_, _≤_}
+use Prim.Native.Nat.{ℕ, zero, suc, _+_, _-_, _*_, _%_, _<_, _≤_, min}
 use native.Mathlib.Numerals.{add-one}
 use native.Mathlib.Nat.{le-of-suc-le-suc}
 use native.Mathlib.Omega.{arith}
-use lib.ListN.{length, getD, set, drop, drop-of-length-le}
-use lib.Seq.{drop-cons}
+use borrow.Author.Tests.{leb-true, leb-false}
+use lib.Dec.{leb}
+use lib.ListN.{length, getD, set, take, drop, drop-of-length-le}
+use lib.Seq.{drop-cons, take-all, take-length}
 use Rattle.commands.specs.Words.{byteAt}
 use Rattle.tasks.specs.declared.sets.Task.{Task}
 use Rattle.tasks.specs.declared.sets.Set.{Set}
@@ -57,3 +60,24 @@ said-begin w n j l = let e : j + 0 ≡ j = omega arith in let f : n - 0 ≡ n = 
 -- a set is its three fields
 pub set-is : (r : Set) (n : List ℕ) (k : ℕ) (ts : List Task) → r .name ≡ n → r .count ≡ k → r .tasks ≡ ts → r ≡ record { name = n; count = k; tasks = ts }
 set-is r n k ts e f g = rw (← e, ← f, ← g)
+
+-- a buffer's bytes within n, and those beyond
+pub within-take : (n m : ℕ) (l : List ℕ) → m ≡ min n (length l) → take m l ≡ take n l
+within-take n m l e = step (leb n (length l)) refl
+  where
+    step : (t : Bool) → leb n (length l) ≡ t → take m l ≡ take n l
+    step true h = let g : n ≤ length l = leb-true _ _ h in let f : m ≡ n = omega arith in rw f
+    step false h =
+        let g : length l < n = leb-false _ _ h in
+        let f : m ≡ length l = omega arith in
+        rw (f, take-length l, take-all n l (omega arith))
+
+pub within-drop : (n m : ℕ) (l : List ℕ) → m ≡ min n (length l) → drop m l ≡ drop n l
+within-drop n m l e = step (leb n (length l)) refl
+  where
+    step : (t : Bool) → leb n (length l) ≡ t → drop m l ≡ drop n l
+    step true h = let g : n ≤ length l = leb-true _ _ h in let f : m ≡ n = omega arith in rw f
+    step false h =
+        let g : length l < n = leb-false _ _ h in
+        let f : m ≡ length l = omega arith in
+        rw (f, drop-of-length-le l {i = length l} (omega arith), drop-of-length-le l {i = n} (omega arith))

@@ -4,6 +4,11 @@ use crate::say;
 use commands::buffers::Lengths;
 use commands::kinds;
 use commands::lines::Command;
+ghost use mathlib.Core.Path.{_≡_};
+ghost use Prim.Native.Nat.{_+_, _%_, _^_};
+ghost use lib.ListN.{drop};
+ghost use Rattle.replay.specs.Bytes.{putAt, said};
+ghost use Rattle.replay.specs.Steps.{lengthAfter, bytesAfter, buffersOf, buffersAfter};
 
 // So many bytes from a place on.
 fn show(buf: &[u8], from: u32, count: u32) {
@@ -22,7 +27,10 @@ fn sum(n: u32, buf: &[u8]) {
 }
 
 // A command on one buffer of n bytes, and its new length.
-fn on_buffer(c: Command, n: u32, buf: &mut [u8]) -> u32 {
+fn on_buffer(c: Command, n: u32, buf: &mut [u8]) -> u32
+    ensures { λ r. ⌜ r ≡ lengthAfter (c .kind) (c .values) n ⌝ }
+    ensures { λ _. ⌜ now (buf .exit) ≡ bytesAfter (c .kind) (c .values) n (now (buf .entry)) ⌝ }
+{
     let vs = c.values;
     if c.kind == kinds::FILL {
         bytes::fill(buf, 0, vs.second as usize, bytes::byte(vs.third));
@@ -49,7 +57,10 @@ fn on_buffer(c: Command, n: u32, buf: &mut [u8]) -> u32 {
 }
 
 // The bytes of the line go behind those of the text, whose new length is answered.
-fn add_text(count: u32, line: &[u8], n: u32, text: &mut [u8]) -> u32 {
+fn add_text(count: u32, line: &[u8], n: u32, text: &mut [u8]) -> u32
+    ensures { λ r. ⌜ r ≡ (n + count) % 2 ^ 32 ⌝ }
+    ensures { λ _. ⌜ now (text .exit) ≡ putAt n (said (drop 5 (now (line .entry))) count 0) (now (text .entry)) ⌝ }
+{
     bytes::add(bytes::behind(line), count, text, n);
     say::ok();
     std::num::wrapping_add_u32(n, count)
@@ -64,7 +75,9 @@ pub fn carry_out(
     work: &mut [u8],
     file: &mut [u8],
     text: &mut [u8],
-) -> Lengths {
+) -> Lengths
+    ensures { λ r. ⌜ buffersOf r (now (table .exit)) (now (work .exit)) (now (file .exit)) (now (text .exit)) ≡ buffersAfter (c .kind) (c .values) (now (line .entry)) (buffersOf l (now (table .entry)) (now (work .entry)) (now (file .entry)) (now (text .entry))) ⌝ }
+{
     let vs = c.values;
     let buffer = vs.first;
     let mut after = l;

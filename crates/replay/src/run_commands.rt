@@ -15,6 +15,12 @@ use guard::runs::Counts;
 use guard::runs::Run;
 use guard::runs::Taken;
 use tasks::sets::Set;
+ghost use mathlib.Core.Path.{_≡_};
+ghost use lib.ListN.{take};
+ghost use Rattle.guard.specs.Runs.{startOf};
+ghost use Rattle.guard.specs.Ask.{askOf};
+ghost use Rattle.guard.specs.Report.{reportOf};
+ghost use Rattle.replay.specs.Steps.{runAfter};
 
 fn answer(taken: Taken) {
     match taken {
@@ -23,14 +29,18 @@ fn answer(taken: Taken) {
     }
 }
 
-fn start(s: Set, reading: u32) -> Run {
+fn start(s: Set, reading: u32) -> Run
+    ensures { λ q. ⌜ q ≡ startOf s reading .run ⌝ }
+{
     let started = runs::start(s, reading);
     let taken = started.answer;
     answer(taken);
     started.run
 }
 
-fn ask(s: Set, table: &[u8], r: Run, proposal: u8) -> Run {
+fn ask(s: Set, table: &[u8], r: Run, proposal: u8) -> Run
+    ensures { λ q. ⌜ q ≡ askOf s (now (table .entry)) r proposal .run ⌝ }
+{
     let asked = asks::ask(s, table, r, proposal);
     let chosen = asked.answer;
     match chosen {
@@ -40,7 +50,9 @@ fn ask(s: Set, table: &[u8], r: Run, proposal: u8) -> Run {
     asked.run
 }
 
-fn report(s: Set, r: Run, reading: u32, finished: bool, arrivals: u8) -> Run {
+fn report(s: Set, r: Run, reading: u32, finished: bool, arrivals: u8) -> Run
+    ensures { λ q. ⌜ q ≡ reportOf s r reading finished arrivals .run ⌝ }
+{
     let reported = reports::report(s, r, reading, finished, arrivals);
     let taken = reported.answer;
     answer(taken);
@@ -86,8 +98,10 @@ fn show(r: Run) {
     say::say(b"\n");
 }
 
-// A command on the run, and the run after it.
-pub fn carry_out(c: Command, s: Set, r: Run, n: u32, table: &[u8]) -> Run {
+// A command on the run, and the run after it; n is the length of the table.
+pub fn carry_out(c: Command, s: Set, r: Run, n: u32, table: &[u8]) -> Run
+    ensures { λ q. ⌜ q ≡ runAfter (c .kind) (c .values) s (take n (now (table .entry))) r ⌝ }
+{
     let vs = c.values;
     if c.kind == kinds::START {
         return start(s, vs.first);

@@ -10,9 +10,16 @@ use tasks::sets;
 use tasks::sets::Set;
 use tasks::sets::Task;
 use tasks::sets::Tested;
+ghost use mathlib.Core.Path.{_≡_};
+ghost use lib.ListN.{take};
+ghost use Rattle.sheet_reader.specs.Reading.{readText};
+ghost use Rattle.sheet_writer.specs.Writing.{writeOf};
+ghost use Rattle.replay.specs.Steps.{setAfter, textAfter};
 
 // The text read as a sheet: the set becomes what that returns.
-fn read(text: &[u8]) -> Set {
+fn read(text: &[u8]) -> Set
+    ensures { λ s. ⌜ s ≡ readText (now (text .entry)) .set ⌝ }
+{
     let r = sheet::read(text);
     let answer = r.answer;
     match answer {
@@ -22,7 +29,9 @@ fn read(text: &[u8]) -> Set {
     r.set
 }
 
-fn write_sheet(s: Set, text: &mut [u8]) {
+fn write_sheet(s: Set, text: &mut [u8])
+    ensures { λ _. ⌜ now (text .exit) ≡ writeOf s (now (text .entry)) .bytes ⌝ }
+{
     let wrote = sheet::write(s, text);
     match wrote {
         Wrote::Length(n) => {
@@ -66,7 +75,10 @@ fn test(s: Set) {
 }
 
 // A command on the set, and the set after it; n is the length of the text.
-pub fn carry_out(c: Command, line: &[u8], s: Set, n: u32, text: &mut [u8]) -> Set {
+pub fn carry_out(c: Command, line: &[u8], s: Set, n: u32, text: &mut [u8]) -> Set
+    ensures { λ r. ⌜ r ≡ setAfter (c .kind) (c .values) (now (line .entry)) (take n (now (text .entry))) s ⌝ }
+    ensures { λ _. ⌜ now (text .exit) ≡ textAfter (c .kind) s n (now (text .entry)) ⌝ }
+{
     let end = bytes::within(n, text);
     if c.kind == kinds::READ {
         return read(&text[..end]);

@@ -29,7 +29,8 @@ module _ (s : Set) (xs : List TaskState) (e : ℕ) where
   abbrev pub NoneAllowed : ℕ → Type 0
   NoneAllowed n = (k : ℕ) → k < n → T (not (names e (k + 1)))
 
-  abbrev Found : ℕ → ℕ → Type 0
+  -- the best of the allowed tasks, and idle if none is
+  abbrev pub Found : ℕ → ℕ → Type 0
   Found n c = ((c ≡ 0) × NoneAllowed n) ⊎ ((b : ℕ) × (c ≡ b + 1) × Best n b)
 
   -- a fact of each number below n, and of n

@@ -4,19 +4,19 @@ use mathlib.Core.Bool.{Bool, true, false, not, cond}
 use mathlib.Core.List.{List, [], _∷_}
 use Prim.Native.Nat.{ℕ, suc, _+_, _≤_, _<_}
 use native.Mathlib.Omega.{arith}
-use lib.Dec.{T, eqb, leb, ltb, leb→le, ltb→lt, lt→ltb, nltb→le, T-not}
-use lib.ListN.{length}
+use lib.Dec.{T, eqb, leb, ltb, eqb→eq, leb→le, ltb→lt, lt→ltb, nltb→le, T-not}
+use lib.ListN.{length, getD}
 use borrow.Author.Tests.{lt-ltb, le-ltb, le-leb, eq-eqb}
 use Rattle.arena.proofs.Tests.{by-cond, nor, and-left, and-right, and-by, T-true, T-false, first-least}
 use Rattle.tasks.specs.declared.sets.Task.{Task}
 use Rattle.tasks.specs.declared.sets.Set.{Set}
-use Rattle.tasks.specs.Refusals.{bufferTooShort, stateDoesNotFit, outOfTurn, ticksUsedUp, proposalAboveCount, badEntry, wrongReading, impossibleOutcome, hardMiss}
+use Rattle.tasks.specs.Refusals.{answered, refusing, bufferTooShort, stateDoesNotFit, outOfTurn, ticksUsedUp, proposalAboveCount, badEntry, wrongReading, impossibleOutcome, hardMiss}
 use Rattle.tasks.specs.Sets.{cmax, amax, taskAt, statesOf, Passed}
 use Rattle.tasks.proofs.ListLaws.{longest-pos}
 use Rattle.tasks.proofs.Valid.{ValidTask, passed-valid}
 use Rattle.game.specs.declared.states.TaskState.{TaskState}
 use Rattle.game.specs.States.{inRange, noState, stateAt, indexOf}
-use Rattle.shield.specs.Entries.{entryAt}
+use Rattle.shield.specs.Entries.{names, entryAt}
 use Rattle.guard.specs.declared.runs.Counts.{Counts}
 use Rattle.guard.specs.declared.runs.Awaited.{Awaited}
 use Rattle.guard.specs.declared.runs.Awaited.the-variants as Awaited
@@ -30,7 +30,7 @@ use Rattle.guard.specs.Ask.{serves, choiceFor, askGiven, askRefused, askEntry, 
 use Rattle.guard.specs.Report.{nextReading, flagsAt, tickAt, isSuch, firstSuch, strays, impossible, stateAfter, countsAfter, stateThen, countsThen, runAfter, reportRefused, reportNamed, reportAwaited, reportTested, reportOf}
 use Rattle.guard.specs.Calls.{Call, ask, report, saidBy, runBy, runFrom, reached}
 use Rattle.guard.proofs.RunLaws.{seven-at, Fit, Fits, fits-by, open-ticks}
-use Rattle.safe_runs.proofs.Guarded.{choice-legal}
+use Rattle.safe_runs.proofs.Guarded.{Found, choice-back, choice-other, choice-legal}
 use Rattle.safe_runs.proofs.TickSums.{fit-tick}
 
 -- places with the same state and counts fit together
@@ -103,7 +103,7 @@ module _ (s : Set) (q : Passed s) (table : List ℕ) (r : Run) (p : ℕ) (P : As
       (λ d. given (record { free = a; more = b; within = nltb→le (s .count) p c; serves = d }))
       bad))))))
 
--- a run that gave its choice
+-- a run that awaits nothing
 free-awaited : (s : Set) (r : Run) (a : Awaited) → T (not (awaits a)) → T (awaitedFits s r a) → r .substitutions ≤ r .ticks
 free-awaited s r Awaited.Nothing f t = leb→le (r .substitutions) (r .ticks) t
 free-awaited s r (Awaited.Choice c) f t = absurd f
@@ -142,7 +142,7 @@ module _ (s : Set) (xs : List TaskState) (o : Outcome) where
   unfolding impossible
   possible-none t = none-such false (nltb→le _ (s .count) (nor (strays s o) _ t .1))
 
--- what a report answers, for a set that passes and a run that fits
+-- what a report with the next reading answers
 module _ (s : Set) (r : Run) (o : Outcome) (P : Reported → Type 0) where
   pub named-case : (T (impossible s (r .states) o) → P (reportRefused r impossibleOutcome 0))
       → (T (not (impossible s (r .states) o)) → firstSuch s (r .states) o true < s .count → P (reportRefused r hardMiss (suc (firstSuch s (r .states) o true))))
@@ -153,9 +153,10 @@ module _ (s : Set) (r : Run) (o : Outcome) (P : Reported → Type 0) where
       by-cond P (impossible s (r .states) o) _ _ a
       (λ t. by-cond P (ltb (firstSuch s (r .states) o true) (s .count)) _ _ (λ l. b t (ltb→lt _ _ l)) (λ l. c t (nltb→le _ _ l)))
 
+-- what a report answers, for a set that passes and a run that fits
 module _ (s : Set) (q : Passed s) (r : Run) (w : Fits s r) (reading : ℕ) (finished : Bool) (arrivals : ℕ) (P : Reported → Type 0) where
   pub report-case : (P (reportRefused r outOfTurn 0)) → P (reportRefused r wrongReading 0)
-      → ((c : ℕ) → r .awaited ≡ Awaited.Choice c → P (reportNamed s r (record { choice = c; finished = finished; arrivals = arrivals })))
+      → ((c : ℕ) → r .awaited ≡ Awaited.Choice c → reading ≡ nextReading (r .reading) → P (reportNamed s r (record { choice = c; finished = finished; arrivals = arrivals })))
       → P (reportOf s r reading finished arrivals)
   report-case turn wrong named =
       subst (λ t. P (reportTested s r reading finished arrivals t)) (sym q)
@@ -165,7 +166,7 @@ module _ (s : Set) (q : Passed s) (r : Run) (w : Fits s r) (reading : ℕ) (fini
       by : (a : Awaited) → r .awaited ≡ a → P (reportAwaited s r reading finished arrivals a)
       by Awaited.Nothing e = turn
       by (Awaited.Choice c) e =
-          by-cond P (eqb reading (nextReading (r .reading))) _ _ (λ _. named c e) (λ _. wrong)
+          by-cond P (eqb reading (nextReading (r .reading))) _ _ (λ t. named c e (eqb→eq reading (nextReading (r .reading)) t)) (λ _. wrong)
 
 -- the run after an outcome
 module _ (s : Set) (q : Passed s) (r : Run) (w : Fits s r) (o : Outcome) where
@@ -212,7 +213,7 @@ module _ (s : Set) (q : Passed s) (r : Run) (w : Fits s r) where
   pub report-keeps : (reading : ℕ) (finished : Bool) (arrivals : ℕ) → Fits s (reportOf s r reading finished arrivals .run)
   report-keeps reading finished arrivals =
       report-case s q r w reading finished arrivals (λ a. Fits s (a .run)) w w
-      (λ c e. named-case s r _ (λ a. Fits s (a .run)) (λ _. w) (λ _ _. w) (after-fits s q r w _ (open-ticks s r w c e)))
+      (λ c e _. named-case s r _ (λ a. Fits s (a .run)) (λ _. w) (λ _ _. w) (after-fits s q r w _ (open-ticks s r w c e)))
 
   pub call-keeps : (table : List ℕ) (c : Call) → Fits s (runBy s table r c)
   call-keeps table (ask p) = ask-keeps s q r w table p
@@ -223,20 +224,51 @@ pub runs-fit : (s : Set) → Passed s → (table : List ℕ) (r : Run) → Fits 
 runs-fit s q table r w [] = w
 runs-fit s q table r w (c ∷ cs) = runs-fit s q table (runBy s table r c) (call-keeps s q r w table c) cs
 
-pub reached-fits : (s : Set) → Passed s → (table : List ℕ) (reading : ℕ) (cs : List Call) → Fits s (reached s table reading cs)
-reached-fits s q table reading cs = runs-fit s q table _ (subst (λ (r : Run). Fits s r) (sym (start-run s q reading)) (start-fits s q reading)) cs
+reached-all : (s : Set) → Passed s → (table : List ℕ) (reading : ℕ) (cs : List Call) → Fits s (reached s table reading cs)
+reached-all s q table reading cs = runs-fit s q table _ (subst (λ (r : Run). Fits s r) (sym (start-run s q reading)) (start-fits s q reading)) cs
+
+pub reached-fits : (s : Set) → Passed s → (table : List ℕ) (reading : ℕ) (cs : List Call) → T (fits s (reached s table reading cs))
+reached-fits s q table reading cs = fits-by s _ (reached-all s q table reading cs)
 
 -- arrived is always finished plus replaced plus the job in hand
 pub sums : (s : Set) → Passed s → (table : List ℕ) (reading : ℕ) (cs : List Call) (k : ℕ) → k < s .count
     → let r = reached s table reading cs in T (sumHolds (stateAt (r .states) k) (countsAt (r .counts) k))
-sums s q table reading cs k h = subst T (sym (eq-eqb _ _ (reached-fits s q table reading cs .tasks k h .sum))) tt
+sums s q table reading cs k h = subst T (sym (eq-eqb _ _ (reached-all s q table reading cs .tasks k h .sum))) tt
 
--- and no call on such a run is refused with 21
-pub no-misfit : (s : Set) → Passed s → (table : List ℕ) (r : Run) → Fits s r → (c : Call) → saidBy s table r c .number ≡ stateDoesNotFit → ⊥
+no-21 : (s : Set) → Passed s → (table : List ℕ) (r : Run) → Fits s r → (c : Call) → saidBy s table r c .number ≡ stateDoesNotFit → ⊥
 unfolding askGiven
-no-misfit s q table r w (ask p) =
+no-21 s q table r w (ask p) =
     ask-case s q table r p (λ a. saidChosen (a .answer) .number ≡ stateDoesNotFit → ⊥) (λ _ z. omega arith) (λ t. absurd (T-not (fits s r) t (fits-by s r w)))
     (λ _ z. omega arith) (λ _ z. omega arith) (λ _ z. omega arith) (λ _ z. omega arith) (λ _ z. omega arith)
-no-misfit s q table r w (report reading finished arrivals) =
+no-21 s q table r w (report reading finished arrivals) =
     report-case s q r w reading finished arrivals (λ a. saidTaken (a .answer) .number ≡ stateDoesNotFit → ⊥) (λ z. omega arith) (λ z. omega arith)
-    (λ c e. named-case s r _ (λ a. saidTaken (a .answer) .number ≡ stateDoesNotFit → ⊥) (λ _ z. omega arith) (λ _ _ z. omega arith) (λ _ _ z. omega arith))
+    (λ c e _. named-case s r _ (λ a. saidTaken (a .answer) .number ≡ stateDoesNotFit → ⊥) (λ _ z. omega arith) (λ _ _ z. omega arith) (λ _ _ z. omega arith))
+
+-- and no call on such a run is refused with 21
+pub no-misfit : (s : Set) → Passed s → (table : List ℕ) (reading : ℕ) (cs : List Call) (c : Call) → saidBy s table (reached s table reading cs) c .number ≡ stateDoesNotFit → ⊥
+no-misfit s q table reading cs = no-21 s q table (reached s table reading cs) (reached-all s q table reading cs)
+
+-- the entry of a run's own index
+abbrev pub own : Set → List ℕ → Run → ℕ
+own s table r = entryAt table (indexOf s (r .states))
+
+-- the guard: an ask that is answered gives an allowed proposal back and else the best substitute, counts a substitution where it is
+-- not the proposal, and awaits the choice that it gave
+pub record Guards (s : Set) (table : List ℕ) (r : Run) (p c : ℕ) (after : Run) : Type 0 where
+  pub back : T (names (own s table r) p) → c ≡ p
+  pub other : T (not (names (own s table r) p)) → Found s (r .states) (own s table r) (s .count) c
+  pub run : after ≡ askGiven r p c .run
+
+pub asked : (s : Set) → Passed s → (table : List ℕ) (r : Run) (p c : ℕ) → saidChosen (askOf s table r p .answer) ≡ answered (c ∷ []) → Guards s table r p c (askOf s table r p .run)
+unfolding askGiven
+asked s q table r p c =
+    ask-case s q table r p (λ a. saidChosen (a .answer) ≡ answered (c ∷ []) → Guards s table r p c (a .run))
+    (λ _ z. absurd (no z)) (λ _ z. absurd (no z)) (λ _ z. absurd (no z)) (λ _ z. absurd (no z)) (λ _ z. absurd (no z)) (λ _ z. absurd (no z))
+    (λ _ z. let e = own s table r in let k : choiceFor s (r .states) e p ≡ c = ap (λ a. getD (a .values) 0 0) z in record {
+      back = λ t. sym k ∙ choice-back s (r .states) e p t;
+      other = λ t. subst (λ (c : ℕ). Found s (r .states) e (s .count) c) k (choice-other s (r .states) e p t);
+      run = ap (λ c. askGiven r p c .run) k;
+    })
+  where
+    no : {n place : ℕ} → refusing 1 (record { number = suc n; place = place }) ≡ answered (c ∷ []) → ⊥
+    no z = omega (arith, ap (λ a. a .number) z)

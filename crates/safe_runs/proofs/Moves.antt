@@ -35,11 +35,11 @@ use Rattle.guard.specs.declared.runs.Run.{Run}
 use Rattle.guard.specs.declared.runs.Taken.the-variants as Taken
 use Rattle.guard.specs.declared.reports.Outcome.{Outcome}
 use Rattle.guard.specs.declared.reports.Reported.{Reported}
-use Rattle.guard.specs.Runs.{tickLimit, legalFor, awaitedFits, fits}
+use Rattle.guard.specs.Runs.{tickLimit, legalFor, awaitedFits, fits, saidTaken}
 use Rattle.guard.specs.Report.{nextReading, flagsAt, seenTo, tickAt, isSuch, firstSuch, strays, impossible, runAfter, reportRefused, reportNamed, reportAwaited, reportTested, reportOf}
-use Rattle.guard.proofs.RunLaws.{Fits, fits-by}
+use Rattle.guard.proofs.RunLaws.{Fits, fits-at}
 use Rattle.safe_runs.proofs.Named.{nextTo, named-in, next-go, next-miss}
-use Rattle.safe_runs.proofs.Keeps.{count-le, none-such, possible-none, state-then}
+use Rattle.safe_runs.proofs.Keeps.{count-le, none-such, possible-none, named-case, report-case, state-then}
 
 -- no flags
 abbrev noFlags : Flags
@@ -174,7 +174,11 @@ legal-awaited s r (Awaited.Choice d) c e t =
     let q : d ≡ c = cc in
     subst (λ (c : ℕ). T (legalFor s (r .states) c)) q (and-right (leb (r .substitutions) (r .ticks + 1)) _ (and-right (ltb (r .ticks) tickLimit) _ t))
 
-module _ (s : Set) (q : Passed s) (r : Run) (w : Fits s r) (c : ℕ) (e : r .awaited ≡ Awaited.Choice c) where
+-- a run that fits and awaits a report
+module _ (s : Set) (q : Passed s) (r : Run) (fit : T (fits s r)) (c : ℕ) (e : r .awaited ≡ Awaited.Choice c) where
+  w : Fits s r
+  w = fits-at s r (count-le s q) fit
+
   -- what a report says of the awaited choice
   abbrev pub said : Bool → ℕ → Outcome
   said finished arrivals = record { choice = c; finished = finished; arrivals = arrivals }
@@ -187,7 +191,7 @@ module _ (s : Set) (q : Passed s) (r : Run) (w : Fits s r) (c : ℕ) (e : r .awa
   pub report-right : (finished : Bool) (arrivals : ℕ) → reportOf s r (nextReading (r .reading)) finished arrivals ≡ reportNamed s r (said finished arrivals)
   report-right finished arrivals =
       ap (reportTested s r (nextReading (r .reading)) finished arrivals) q
-      ∙ ap (λ b. cond b (reportAwaited s r (nextReading (r .reading)) finished arrivals (r .awaited)) (reportRefused r stateDoesNotFit 0)) (T-true (fits s r) (fits-by s r w))
+      ∙ ap (λ b. cond b (reportAwaited s r (nextReading (r .reading)) finished arrivals (r .awaited)) (reportRefused r stateDoesNotFit 0)) (T-true (fits s r) fit)
       ∙ ap (reportAwaited s r (nextReading (r .reading)) finished arrivals) e
       ∙ ap (λ b. cond b (reportNamed s r (said finished arrivals)) (reportRefused r wrongReading 0)) (eq-eqb (nextReading (r .reading)) (nextReading (r .reading)) refl)
 
@@ -214,7 +218,22 @@ module _ (s : Set) (q : Passed s) (r : Run) (w : Fits s r) (c : ℕ) (e : r .awa
     pub lowest : (j : ℕ) → j < task → isSuch true (tickAt s (r .states) o j) ≡ false
     pub next : n ≡ miss
 
-  -- an accepted report, and one refused with 19, names an outcome of the awaited choice
+  -- a report that is accepted, or refused with 19, has the next reading and names an outcome
+  abbrev pub Heard : ℕ → Bool → ℕ → Reported → Type 0
+  Heard reading finished arrivals a =
+      (saidTaken (a .answer) .number ≡ 0) ⊎ (saidTaken (a .answer) .number ≡ hardMiss) → (reading ≡ nextReading (r .reading)) × Names finished arrivals
+
+  pub accepted : (reading : ℕ) (finished : Bool) (arrivals : ℕ) → Heard reading finished arrivals (reportOf s r reading finished arrivals)
+  accepted reading finished arrivals =
+      report-case s q r w reading finished arrivals (Heard reading finished arrivals)
+      (λ z. absurd (⊎-elim (λ n. omega arith) (λ n. omega arith) z)) (λ z. absurd (⊎-elim (λ n. omega arith) (λ n. omega arith) z))
+      (λ d g h.
+      let y : Awaited.Choice d ≡ Awaited.Choice c = sym g ∙ e in
+      let k : d ≡ c = cc in
+      let named : T (not (impossible s (r .states) (record { choice = d; finished = finished; arrivals = arrivals }))) → Names finished arrivals = subst (λ (c : ℕ). T (not (impossible s (r .states) (record { choice = c; finished = finished; arrivals = arrivals })))) k in
+      named-case s r _ (Heard reading finished arrivals) (λ _ z. absurd (⊎-elim (λ n. omega arith) (λ n. omega arith) z)) (λ t _ _. (h, named t)) (λ t _ _. (h, named t)))
+
+  -- a report that names an outcome of the awaited choice is accepted and moves to it, or is refused with 19 if it is a miss
   pub moves : (finished : Bool) (arrivals : ℕ) → Names finished arrivals
       → let o = said finished arrivals in let n = nextTo s (r .states) o (s .count) in let a = reportOf s r (nextReading (r .reading)) finished arrivals in
       (out (seenTo o (s .count)) n ∈ arenaOf s .outs (indexOf s (r .states)) c) × (Taken-to o n a ⊎ Missed-at o n a)

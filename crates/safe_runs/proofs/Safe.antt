@@ -147,7 +147,7 @@ module _ (s : Set) (table : List ℕ) (w : Tried s table) (bytes : Bytes (states
       report-case s (w .set) r (g .fits) reading finished arrivals (λ a. Good s table (a .run) × Clean (saidTaken (a .answer)))
       (g, clean tt tt tt)
       (g, clean tt tt tt)
-      (λ c e. named-case s r _ (λ a. Good s table (a .run) × Clean (saidTaken (a .answer)))
+      (λ c e _. named-case s r _ (λ a. Good s table (a .run) × Clean (saidTaken (a .answer)))
       (λ _. (g, clean tt tt tt))
       (λ t l. absurd (missed (record { choice = c; finished = finished; arrivals = arrivals }) e t l))
       (λ t l. (moved (record { choice = c; finished = finished; arrivals = arrivals }) e t l, clean tt tt tt)))

@@ -28,7 +28,7 @@ pub fn next<'a>(r: Reader<'a>) -> SheetRead
     sheet_reader::read_at(r.text, r.at)
 }
 
-// The reader after that: at the end of its text or, where the form has a fault, at its place; not moved by more than 1,024 bytes.
+// The reader after that: at the end of its text or, where the form has a fault, at its place; where it was, if over 1,024 bytes are left.
 pub fn past<'a>(r: Reader<'a>) -> Reader<'a>
     ensures { λ q. ⌜ (q .text ≡ r .entry .text) × (q .at ≡ r .entry .at + reachText (drop (r .entry .at) (now (r .entry .text)))) ⌝ }
 {

@@ -81,9 +81,16 @@ pub line-more : (ts : List Task) (i : ℕ) → i < length ts
     → each lineText (map lineOf (take i ts)) ++ lineText (lineOf (getD ts i noTask)) ≡ each lineText (map lineOf (take (i + 1) ts))
 line-more ts i h = sym (rw (add-one, take-suc ts i noTask h, map-append, each-snoc) refl)
 
-pub parts-length : (τ : Task) → ValidTask τ
-    → (length (kindText (eqb (τ .kind) 1)) ≡ 5) × (length (decimal (τ .deadline)) ≤ 2) × (length (valuesText (lastApart (valuesOf (τ .runs)))) ≤ 47) × (length (valuesText (lastApart (valuesOf (τ .gaps)))) ≤ 47)
-parts-length τ h = (kind-length (eqb (τ .kind) 1), decimal-length (τ .deadline), list-length (τ .runs) (h .runs), list-length (τ .gaps) (h .gaps))
+-- how long the parts of a task's line are
+pub record Parts (τ : Task) : Type 0 where
+  pub kind : length (kindText (eqb (τ .kind) 1)) ≡ 5
+  pub deadline : length (decimal (τ .deadline)) ≤ 2
+  pub runs : length (valuesText (lastApart (valuesOf (τ .runs)))) ≤ 47
+  pub gaps : length (valuesText (lastApart (valuesOf (τ .gaps)))) ≤ 47
+
+pub parts-length : (τ : Task) → ValidTask τ → Parts τ
+parts-length τ h =
+    record { kind = kind-length (eqb (τ .kind) 1); deadline = decimal-length (τ .deadline); runs = list-length (τ .runs) (h .runs); gaps = list-length (τ .gaps) (h .gaps) }
 
 -- a valid set's task i + 1, and the lines before it
 module _ (s : Set) (v : Valid s) (i : ℕ) (h : i < s .count) where

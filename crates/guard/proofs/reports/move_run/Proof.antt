@@ -1,6 +1,5 @@
 -- Every place, and a tick more.
 use borrow.Author.Needs.{needs}
-use native.Mathlib.Omega.{arith}
 use Rattle.tasks.proofs.Valid.{passed-valid}
 use Rattle.guard.specs.Report.{stateThen, countsThen, runAfter}
 use Rattle.guard.proofs.RunLaws.{fits-at, Fits, small-counts}

@@ -1,0 +1,83 @@
+-- The six ways in which a line is mangled. A row's forms and a line's words are both lists of texts.
+use mathlib.Core.Bool.{Bool, true, false, not, _&&_, _||_, cond}
+use mathlib.Core.List.{List, [], _∷_}
+use Prim.Native.Nat.{ℕ}
+use lib.Dec.{eqb, leb, ltb}
+use lib.ListN.{length, getD}
+use Rattle.commands.specs.declared.buffers.Lengths.{Lengths}
+use Rattle.commands.specs.declared.numbers.Found.{Found}
+use Rattle.commands.specs.declared.numbers.Found.the-variants as Found
+use Rattle.commands.specs.declared.lines.Parsed.{Parsed}
+use Rattle.commands.specs.declared.lines.Parsed.the-variants.{Mangled, Taken}
+use Rattle.commands.specs.declared.lines.Tried.{Tried}
+use Rattle.commands.specs.declared.lines.Tried.the-variants.{Unfit, Fits}
+use Rattle.commands.specs.Texts.{same}
+use Rattle.commands.specs.Words.{isNumber, isBytes}
+use Rattle.commands.specs.Buffers.{bufferOf}
+use Rattle.commands.specs.Forms.{asksBytes, noValues}
+use Rattle.commands.specs.Lines.{words, rows, fit}
+
+abbrev pub some : (List ℕ → Bool) → List (List ℕ) → Bool
+some f [] = false
+some f (x ∷ l) = f x || some f l
+
+abbrev pub isFound : Found → Bool
+isFound Found.Nothing = false
+isFound (Found.Value v) = true
+
+abbrev pub isFit : Tried → Bool
+isFit Unfit = false
+isFit (Fits vs) = true
+
+abbrev pub isMangled : Parsed → Bool
+isMangled Mangled = true
+isMangled (Taken c) = false
+
+-- a word has the form that its place asks for, whatever its range: a fixed word, a buffer, bytes (at least one), or a number
+unfoldable pub hasForm : List ℕ → List ℕ → Bool
+hasForm f w =
+    cond (leb 97 (getD f 0 0)) (same f w)
+    (cond (eqb (getD f 0 0) 85) (isFound (bufferOf w))
+    (cond (asksBytes (getD f 0 0)) (isBytes w && ltb 0 (length w)) (isNumber w)))
+
+-- each word has its form, and there are as many
+unfoldable pub formed : List (List ℕ) → List (List ℕ) → Bool
+formed [] [] = true
+formed [] (w ∷ ws) = false
+formed (f ∷ fs) [] = false
+formed (f ∷ fs) (w ∷ ws) = hasForm f w && formed fs ws
+
+abbrev pub named : List (List ℕ) → List (List ℕ) → Bool
+named fs ws = hasForm (getD fs 0 []) (getD ws 0 [])
+
+abbrev pub counted : List (List ℕ) → List (List ℕ) → Bool
+counted fs ws = named fs ws && eqb (length fs) (length ws)
+
+-- 1: it has more than 255 bytes
+abbrev pub tooLong : List ℕ → Bool
+tooLong line = ltb 255 (length line)
+
+-- 2: it has no byte, or begins or ends with a space, or has two spaces together
+abbrev pub badlySpaced : List ℕ → Bool
+badlySpaced line = some (λ w. eqb (length w) 0) (words line)
+
+-- 3: its first word is no command of the page
+abbrev pub noCommand : List ℕ → Bool
+noCommand line = not (some (λ row. named (words row) (words line)) rows)
+
+-- 4: its number of words is not the command's
+abbrev pub wrongNumber : List ℕ → Bool
+wrongNumber line = not (some (λ row. counted (words row) (words line)) rows)
+
+-- 5: a word does not have the form that its place asks for
+abbrev pub badForm : List ℕ → Bool
+badForm line = not (some (λ row. formed (words row) (words line)) rows)
+
+-- 6: a number is outside its range, or the bytes are too many or too few
+abbrev pub outOfRange : Lengths → List ℕ → Bool
+outOfRange l line = not (some (λ row. isFit (fit l noValues 0 (words row) (words line))) rows)
+
+-- a line is mangled exactly when one of these holds
+abbrev pub oneHolds : Lengths → List ℕ → Bool
+oneHolds l line =
+    tooLong line || (badlySpaced line || (noCommand line || (wrongNumber line || (badForm line || outOfRange l line))))
