@@ -11,7 +11,7 @@ use lib.ListN.{length, length-append}
 use borrow.Author.Tests.{lt-ltb, le-ltb}
 use Rattle.io.specs.Digits.{glyph, digits, Fewest}
 use Rattle.sheet_form.specs.Form.{decimal}
-use Rattle.sheet_form.proofs.Tests.{by-cond, below}
+use Rattle.arena.proofs.Tests.{by-cond, lt-or-le}
 use Rattle.sheet_form.proofs.Shown.{decimal-low, decimal-high}
 use Rattle.report_lines.specs.Lines.{digitsTo, numberText, field}
 
@@ -71,7 +71,7 @@ digits-length zero (suc j) n h = rw (lt-ltb n 10 h) (omega arith)
 digits-length (suc k) (suc j) n h =
     let u : n < 10 ^ suc k * 10 = subst (λ (m : ℕ). n < m) (pow-suc 10 (suc k)) h in
     let d = digits-length k j (n / 10) (div-lt-iff-lt-mul (zero-lt-suc 9) .1 u) in
-    by-cond (λ (l : List ℕ). length l ≤ suc (suc k)) (ltb n 10) (λ t. omega arith)
+    by-cond (λ (l : List ℕ). length l ≤ suc (suc k)) (ltb n 10) _ _ (λ t. omega arith)
     (λ t. omega (arith, length-append (digitsTo j (n / 10)) ((48 + n % 10) ∷ [])))
 
 pub number-length : (k n : ℕ) → n < 10 ^ suc k → length (numberText n) ≤ suc k
@@ -87,7 +87,7 @@ pub sheet-number : (v : ℕ) → v < 100 → numberText v ≡ decimal v
 unfolding numberText
 sheet-number v h =
     ⊎-elim (λ l. digits-one v v l ∙ sym (decimal-low v l))
-    (λ l. digits-more v v l ∙ ap (λ x. x ++ ((48 + v % 10) ∷ [])) (tens-digit l) ∙ sym (decimal-high v l)) (below v 10)
+    (λ l. digits-more v v l ∙ ap (λ x. x ++ ((48 + v % 10) ∷ [])) (tens-digit l) ∙ sym (decimal-high v l)) (lt-or-le v 10)
   where
     tens-digit : 10 ≤ v → digitsTo v (v / 10) ≡ (48 + v / 10) ∷ []
     tens-digit l = ap (λ k. digitsTo k (v / 10)) (sym e) ∙ digits-one (v - 1) (v / 10) (omega arith)

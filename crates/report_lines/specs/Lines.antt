@@ -9,7 +9,7 @@ use lib.Dec.{leb, ltb}
 use lib.ListN.{take, drop}
 use Rattle.tasks.specs.declared.refusals.Refusal.{Refusal}
 use Rattle.tasks.specs.declared.sets.Set.{Set}
-use Rattle.tasks.specs.Sets.{characters, statesOf}
+use Rattle.tasks.specs.Sets.{characters}
 use Rattle.sheet_form.specs.Form.{each}
 
 -- the bytes of a text, a byte a character
@@ -31,9 +31,9 @@ unfoldable pub field : List ℕ → ℕ → List ℕ
 field word n = word ++ numberText n
 
 -- set line: name, tasks, states
-unfoldable pub setLine : Set → List ℕ
-setLine s =
-    bytes "set " ++ take (characters (s .name)) (s .name) ++ field (bytes " tasks ") (s .count) ++ field (bytes " states ") (statesOf s) ++ bytes "\n"
+unfoldable pub setLine : Set → ℕ → List ℕ
+setLine s S =
+    bytes "set " ++ take (characters (s .name)) (s .name) ++ field (bytes " tasks ") (s .count) ++ field (bytes " states ") S ++ bytes "\n"
 
 -- shield line: safe states, R, start's entry
 unfoldable pub shieldLine : ℕ → ℕ → ℕ → List ℕ

@@ -14,11 +14,11 @@ use Rattle.game.specs.Game.{outcomesTo, arenaOf}
 use Rattle.shield.specs.declared.builder.Built.the-variants.{Done}
 use Rattle.shield.specs.Entries.{names, marks, listTo}
 use Rattle.shield.specs.Build.{tooShort, buildOf}
-use Rattle.sheet_form.specs.Form.{Line, Sheet, LineOk, Formed, Member, decimal, valuesText, lineText, fits}
-use Rattle.sheet_form.specs.Sets.{listOf, padded, setOf}
+use Rattle.sheet_form.specs.Form.{Line, Sheet, LineOk, Formed, Member, decimal, valuesText, lineText}
+use Rattle.sheet_form.specs.Sets.{listOf, padded, lineFault, setOf}
 use Rattle.sheet_reader.specs.declared.ReadAnswer.the-variants as Read
 use Rattle.sheet_reader.specs.Reading.{readText}
-use Rattle.sheet_reader.proofs.Readings.{read-by}
+use Rattle.sheet_reader.proofs.Readings.{read-lines}
 use Rattle.report_lines.specs.Lines.{bytes, digitsTo, numberText, field, setLine, shieldLine, rowLine, rowLines, rowsText}
 use Rattle.reporter.specs.Report.{Told, builtText, room, Left, reportOf}
 use Rattle.reporter.proofs.Reports.{told-taken, report-room}
@@ -59,8 +59,8 @@ unfolding decimal valuesText lineText
 pair-member = record { sheet = pair; formed = pair-formed; text = refl }
 
 pair-read : readText pairText ≡ record { answer = Read.Taken; set = setOf pair }
-unfolding values shortestOf longestOf lengthOf nameByte characters zeros goodName blank unfit faultOf faultAt localsOf statesTo lowestFault testStates testSet listOf padded pair-member
-pair-read = read-by pairText (fits pair-member)
+unfolding values shortestOf longestOf lengthOf nameByte characters zeros goodName blank unfit faultOf faultAt localsOf statesTo lowestFault testStates testSet listOf padded lineFault pair-member
+pair-read = read-lines pairText pair-member (omega arith)
 
 pair-built : (n m : ℕ) → 16 ≤ n → 16 ≤ m → buildOf (setOf pair) n m ≡ Done 15 1 6
 unfolding values shortestOf longestOf lengthOf listed nameByte characters zeros goodName blank unfit faultOf faultAt localsOf statesTo lowestFault testStates testSet localOf stateOf inRange indexTo localAt runnable can tickOf outcomesTo arenaOf names marks listTo listOf padded

@@ -1,14 +1,16 @@
 -- The report of what the reader and the builder answered. Assumes nothing.
-use mathlib.Core.Path.{_≡_, sym, ap, ap₂, _∙_, subst}
+use mathlib.Core.Path.{_≡_, sym, ap, _∙_, subst}
+use mathlib.Core.Logic.{⊎-elim}
 use mathlib.Core.Bool.{Bool, true, false, cond}
 use mathlib.Core.List.{List, [], _++_, append-nil}
-use Prim.Native.Nat.{ℕ, _+_, _/_, _≤_, _<_}
+use Prim.Native.Nat.{ℕ, _+_, _/_, _^_, _≤_, _<_}
 use native.Mathlib.Omega.{arith}
 use lib.Dec.{ltb}
-use lib.ListN.{length, take, drop, length-append}
+use lib.ListN.{length, take, drop, getD, length-append, List·getD-eq-default}
 use lib.Seq.{take-at}
 use borrow.Author.Tests.{lt-ltb, le-ltb, le-leb, lt-leb}
 use Rattle.arena.specs.Arena.{shield}
+use Rattle.arena.proofs.Tests.{lt-or-le}
 use Rattle.tasks.specs.declared.refusals.Refusal.{Refusal}
 use Rattle.tasks.specs.declared.sets.Set.{Set}
 use Rattle.tasks.specs.Refusals.{bufferTooShort}
@@ -20,32 +22,56 @@ use Rattle.shield.specs.declared.builder.Built.the-variants.{Done}
 use Rattle.shield.specs.Entries.{entryOf}
 use Rattle.shield.specs.Shield.{shieldTable}
 use Rattle.shield.specs.Build.{buildOf, tableBuilt, Builds}
-use Rattle.shield.proofs.EntryLaws.{list-length}
-use Rattle.shield.proofs.Done.{done-finished, few}
+use Rattle.shield.proofs.EntryLaws.{marks-lt, list-length, list-at}
+use Rattle.shield.proofs.Done.{Finished, done-finished, few}
 use Rattle.sheet_reader.specs.declared.SheetRead.{SheetRead}
 use Rattle.sheet_reader.specs.declared.ReadAnswer.the-variants as Read
 use Rattle.sheet_reader.specs.Reading.{readText}
-use Rattle.sheet_writer.specs.Page.{Puts}
-use Rattle.sheet_writer.proofs.Pages.{puts-as, puts-take}
+use Rattle.texts.specs.Puts.{Puts}
+use Rattle.texts.proofs.PutLaws.{puts-as, puts-whole}
 use Rattle.reporter.specs.declared.Reported.{Reported}
 use Rattle.reporter.specs.declared.Reported.the-variants.{Length, Refused}
+use Rattle.report_lines.proofs.Lengths.{Short, set-length, shield-length, rows-length}
 use Rattle.report_lines.specs.Lines.{rowLines, rowsText, refusedLine}
 use Rattle.reporter.specs.Report.{Told, builtText, toldBuilt, toldRead, toldOf, room, Left, leaving, placed, reportOf, Tells}
 
-pub shield-length : (s : Set) → length (shieldTable s) ≡ statesOf s
-shield-length s = list-length (λ i. entryOf (shield (arenaOf s) i)) (statesOf s)
+pub table-length : (s : Set) → length (shieldTable s) ≡ statesOf s
+table-length s = list-length (λ i. entryOf (shield (arenaOf s) i)) (statesOf s)
 
--- where the builder is done: what the lines of a set ask for
-pub built-done : (s : Set) (t w t′ w′ : List ℕ) (b : Built) (k r e : ℕ) → Builds s t w b t′ w′ → b ≡ Done k r e
-    → (Passed s × (statesOf s ≤ length t′) × (take (statesOf s) t′ ≡ shieldTable s)) × ((k ≤ 60000) × (r ≤ 60000))
-built-done s t w t′ w′ b k r e h q =
-    let f = done-finished s (length t) (length w) k r e (sym q ∙ h .answer) in
-    let v = passed-valid s (f .set) .states in
-    let l = few s k r e f in
-    let y : t′ ≡ shieldTable s ++ drop (statesOf s) t = h .table ∙ ap (λ (x : Built). tableBuilt s x t) q in
-    let n : statesOf s ≤ length t′ = omega (arith, ap length y, length-append (shieldTable s) (drop (statesOf s) t), shield-length s) in
-    let z : take (statesOf s) t′ ≡ shieldTable s = ap (take (statesOf s)) y ∙ take-at (shieldTable s) _ (statesOf s) (shield-length s) in
-    ((f .set, n, z), (omega arith, omega arith))
+-- an entry has at most three digits
+entries-short : (s : Set) → Short (shieldTable s)
+entries-short s i = ⊎-elim inside beyond (lt-or-le i (statesOf s))
+  where
+    inside : i < statesOf s → getD (shieldTable s) i 0 < 10 ^ 3
+    inside h =
+        let e : getD (shieldTable s) i 0 ≡ entryOf (shield (arenaOf s) i) = ap (λ l. getD l i 0) (sym (append-nil (shieldTable s))) ∙ list-at (λ i. entryOf (shield (arenaOf s) i)) (statesOf s) [] i h in
+        omega (arith, marks-lt 8 (shield (arenaOf s) i))
+
+    beyond : statesOf s ≤ i → getD (shieldTable s) i 0 < 10 ^ 3
+    beyond h = omega (arith, List·getD-eq-default (shieldTable s) 0 {n = i} (omega (arith, table-length s)))
+
+rows-short : (S : ℕ) (t : List ℕ) → Short t → length (rowsText S t) ≤ 312
+unfolding rowsText
+rows-short S t h =
+    ⊎-elim (λ l. rw (lt-leb S 64 l) (omega arith)) (λ l. rw (le-leb S 64 l) (omega (arith, rows-length t ((S + 7) / 8) (omega arith) h))) (lt-or-le 64 S)
+
+-- where the builder is done: what the lines of a set ask for, and that they fit
+module _ (s : Set) (t w t′ w′ : List ℕ) (b : Built) (k r e : ℕ) (h : Builds s t w b t′ w′) (q : b ≡ Done k r e) where
+  finished : Finished s k r e
+  finished = done-finished s (length t) (length w) k r e (sym q ∙ h .answer)
+
+  pub built-done : Passed s × (take (statesOf s) t′ ≡ shieldTable s)
+  built-done =
+      let y : t′ ≡ shieldTable s ++ drop (statesOf s) t = h .table ∙ ap (λ (x : Built). tableBuilt s x t) q in
+      (finished .set, ap (take (statesOf s)) y ∙ take-at (shieldTable s) _ (statesOf s) (table-length s))
+
+  pub done-short : length (s .name) ≤ 16 → length (builtText s (Done k r e)) ≤ room
+  done-short n =
+      let v = passed-valid s (finished .set) in
+      let l = few s k r e finished in
+      let x = set-length s (statesOf s) n (omega (arith, v .count)) (omega (arith, v .states)) in
+      let y = shield-length k r e (omega (arith, v .states)) (omega (arith, v .states)) (omega (arith, finished .start, marks-lt 8 (shield (arenaOf s) 0))) in
+      simp length-append (omega (arith, rows-short (statesOf s) (shieldTable s) (entries-short s)))
 
 -- no rows, and the rows of a table that is no longer than S
 module _ (S : ℕ) (t : List ℕ) where
@@ -64,9 +90,10 @@ tells-as {p} {q} {n} {t} {w} k e = subst (Tells p q n t w) e k
 
 -- what the builder answered
 pub tells-built : (s : Set) (t w : List ℕ) (b x : Built) (t′ w′ : List ℕ) {p q : List ℕ} {n : ℕ} → Builds s t w b t′ w′ → b ≡ x
-    → Puts p q 0 n (builtText s x) → n ≤ room → Tells p q n t′ w′ (toldBuilt s t w (buildOf s (length t) (length w)))
+    → Puts p q 0 n (builtText s x) → length (builtText s x) ≤ room → Tells p q n t′ w′ (toldBuilt s t w (buildOf s (length t) (length w)))
 tells-built s t w b x t′ w′ h e k l =
-    tells-as (record { text = puts-as k (ap (builtText s) (sym e)); short = l; table = h .table; work = h .work }) (ap (toldBuilt s t w) (h .answer))
+    let y : builtText s x ≡ builtText s b = ap (builtText s) (sym e) in
+    tells-as (record { text = puts-as k y; short = omega (arith, ap length y); table = h .table; work = h .work }) (ap (toldBuilt s t w) (h .answer))
 
 -- what the reader answered
 module _ (sheet t w : List ℕ) (q : SheetRead) (e : q ≡ readText sheet) where
@@ -88,15 +115,14 @@ module _ (sheet t w o : List ℕ) where
   unfolding reportOf
   report-room h = ap (λ b. cond b (leaving (Refused (record { number = bufferTooShort; place = room })) t w o) (placed (toldOf sheet t w) o)) (le-ltb (length o) room h)
 
-  pub report-fits : (p q : List ℕ) (n : ℕ) (t′ w′ o′ : List ℕ) → room ≤ length o → room ≤ length p → Tells p q n t′ w′ (toldOf sheet t w)
-      → o′ ≡ take n q ++ drop n o → leaving (Length n) t′ w′ o′ ≡ reportOf sheet t w o
-  report-fits p q n t′ w′ o′ h l k e = same (toldOf sheet t w) k ∙ sym (report-room h)
+  pub report-fits : (q : List ℕ) (n : ℕ) (t′ w′ : List ℕ) → room ≤ length o → Tells o q n t′ w′ (toldOf sheet t w) → leaving (Length n) t′ w′ q ≡ reportOf sheet t w o
+  report-fits q n t′ w′ h k = same (toldOf sheet t w) k ∙ sym (report-room h)
     where
-      same : (x : Told) → Tells p q n t′ w′ x → leaving (Length n) t′ w′ o′ ≡ placed x o
+      same : (x : Told) → Tells o q n t′ w′ x → leaving (Length n) t′ w′ q ≡ placed x o
       same x k =
-          let m : n ≡ length (x .text) = omega (arith, k .text .next) in
-          let g : take n q ≡ x .text = puts-take (k .text) (omega (arith, k .short)) in
-          let f : o′ ≡ x .text ++ drop (length (x .text)) o = e ∙ ap₂ (λ y i. y ++ drop i o) g m in
+          let z = puts-whole (k .text) (omega (arith, k .short)) in
+          let m = z .0 in
+          let f = z .1 in
           let a = k .table in
           let b = k .work in
           cc

@@ -15,14 +15,14 @@ use Rattle.shield.specs.Build.{buildOf, tableBuilt, workBuilt}
 use Rattle.sheet_reader.specs.declared.ReadAnswer.{ReadAnswer}
 use Rattle.sheet_reader.specs.declared.ReadAnswer.the-variants as Read
 use Rattle.sheet_reader.specs.Reading.{readText}
-use Rattle.sheet_writer.specs.Page.{Puts}
+use Rattle.texts.specs.Puts.{Puts}
 use Rattle.reporter.specs.declared.Reported.{Reported}
 use Rattle.reporter.specs.declared.Reported.the-variants.{Length, Refused}
 use Rattle.report_lines.specs.Lines.{setLine, shieldLine, rowsText, refusedLine}
 
 -- the lines of what the builder answers for a set: all of them, or that of the refusal
 abbrev pub builtText : Set → Built → List ℕ
-builtText s (Built.Done safe rounds start) = setLine s ++ shieldLine safe rounds start ++ rowsText (statesOf s) (shieldTable s)
+builtText s (Built.Done safe rounds start) = setLine s (statesOf s) ++ shieldLine safe rounds start ++ rowsText (statesOf s) (shieldTable s)
 builtText s (Built.Refused f) = refusedLine f
 
 -- a report's bytes, and those of table and work after it
@@ -67,10 +67,10 @@ reportOf sheet t w o =
     cond (ltb (length o) room) (leaving (Refused (record { number = bufferTooShort; place = room })) t w o)
     (placed (toldOf sheet t w) o)
 
--- a report put on a page from its first byte on, and what table and work have become
+-- the output p has become q, with a report from its first byte on up to n, and table and work have become t and w
 pub record Tells (p q : List ℕ) (n : ℕ) (t w : List ℕ) (x : Told) : Type 0 where
   pub text : Puts p q 0 n (x .text)
-  pub short : n ≤ room
+  pub short : length (x .text) ≤ room
   pub table : t ≡ x .table
   pub work : w ≡ x .work
 

@@ -8,12 +8,11 @@ use tasks::sets;
 use tasks::sets::Set;
 use tasks::sets::Tested;
 ghost use mathlib.Core.Path.{_≡_};
-ghost use Prim.Native.Nat.{_≤_};
 ghost use lib.ListN.{length, take};
 ghost use Rattle.tasks.specs.Sets.{statesOf, Passed};
 ghost use Rattle.shield.specs.Build.{buildOf};
 ghost use Rattle.shield.specs.Shield.{shieldTable};
-ghost use Rattle.sheet_writer.specs.Page.{Puts};
+ghost use Rattle.texts.specs.Puts.{Puts};
 ghost use Rattle.reporter.specs.Report.{builtText, toldBuilt, toldOf, Tells, leaving, reportOf};
 
 // The bytes that every report fits in.
@@ -37,53 +36,44 @@ fn states(set: Set) -> u32
 }
 
 // The lines of a set whose shield stands in the table.
-fn put_done(
-    text: &mut [u8; 1024],
-    set: Set,
-    table: &[u8],
-    safe: u32,
-    rounds: u32,
-    start: u8,
-) -> usize
-    requires { ⌜ Passed set × (statesOf set ≤ length (now table)) × (take (statesOf set) (now table) ≡ shieldTable set) ⌝ }
-    requires { ⌜ (safe ≤ 60000) × (rounds ≤ 60000) ⌝ }
-    ensures { λ r. ⌜ Puts (now (text .entry)) (now (text .exit)) 0 r (builtText set (Built.Done safe rounds start)) ⌝ }
-    ensures short { λ r. ⌜ r ≤ 390 ⌝ }
+fn put_done(buf: &mut [u8], set: Set, table: &[u8], safe: u32, rounds: u32, start: u8) -> usize
+    requires { ⌜ Passed set × (take (statesOf set) (now table) ≡ shieldTable set) ⌝ }
+    ensures { λ r. ⌜ Puts (now (buf .entry)) (now (buf .exit)) 0 r (builtText set (Built.Done safe rounds start)) ⌝ }
 {
     let n = states(set);
-    let a = report_lines::put_set_line(text, set, n);
-    let b = report_lines::put_shield_line(text, a, safe, rounds, start);
+    let a = report_lines::put_set_line(buf, 0, set, n);
+    let b = report_lines::put_shield_line(buf, a, safe, rounds, start);
     if 64 < n {
         return b;
     }
     let size = n as usize;
-    report_lines::put_rows(text, b, &table[..size])
+    report_lines::put_rows(buf, b, &table[..size])
 }
 
 // The lines of a set, and its shield in the table.
-fn put_set(text: &mut [u8; 1024], set: Set, table: &mut [u8], work: &mut [u8]) -> usize
-    ensures { λ r. ⌜ Tells (now (text .entry)) (now (text .exit)) r (now (table .exit)) (now (work .exit)) (toldBuilt set (now (table .entry)) (now (work .entry)) (buildOf set (length (now (table .entry))) (length (now (work .entry))))) ⌝ }
+fn put_set(buf: &mut [u8], set: Set, table: &mut [u8], work: &mut [u8]) -> usize
+    ensures { λ r. ⌜ Tells (now (buf .entry)) (now (buf .exit)) r (now (table .exit)) (now (work .exit)) (toldBuilt set (now (table .entry)) (now (work .entry)) (buildOf set (length (now (table .entry))) (length (now (work .entry))))) ⌝ }
 {
     match builder::build(set, table, work) {
         Built::Done {
             safe,
             rounds,
             start,
-        } => put_done(text, set, table, safe, rounds, start),
-        Built::Refused(f) => report_lines::put_refused_line(text, f),
+        } => put_done(buf, set, table, safe, rounds, start),
+        Built::Refused(f) => report_lines::put_refused_line(buf, 0, f),
     }
 }
 
 // The lines of a sheet.
-fn put_sheet(text: &mut [u8; 1024], sheet: &[u8], table: &mut [u8], work: &mut [u8]) -> usize
-    ensures { λ r. ⌜ Tells (now (text .entry)) (now (text .exit)) r (now (table .exit)) (now (work .exit)) (toldOf (now (sheet .entry)) (now (table .entry)) (now (work .entry))) ⌝ }
+fn put_sheet(buf: &mut [u8], sheet: &[u8], table: &mut [u8], work: &mut [u8]) -> usize
+    ensures { λ r. ⌜ Tells (now (buf .entry)) (now (buf .exit)) r (now (table .exit)) (now (work .exit)) (toldOf (now (sheet .entry)) (now (table .entry)) (now (work .entry))) ⌝ }
 {
     let read = sheet::read(sheet);
     let answer = read.answer;
     let set = read.set;
     match answer {
-        ReadAnswer::Taken => put_set(text, set, table, work),
-        ReadAnswer::Refused(f) => report_lines::put_refused_line(text, f),
+        ReadAnswer::Taken => put_set(buf, set, table, work),
+        ReadAnswer::Refused(f) => report_lines::put_refused_line(buf, 0, f),
     }
 }
 
@@ -97,8 +87,6 @@ pub fn report(sheet: &[u8], table: &mut [u8], work: &mut [u8], output: &mut [u8]
             place: ROOM as u32,
         });
     }
-    let mut text = [0u8; 1024];
-    let n = put_sheet(&mut text, sheet, table, work);
-    sheet_writer::copy(output, &text, n);
+    let n = put_sheet(output, sheet, table, work);
     Reported::Length(n as u32)
 }

@@ -1,5 +1,5 @@
 // The writer of sheets: the one sheet that a set has, into a lent buffer.
-pub mod page;
+mod page;
 
 use sheet_form::LONGEST;
 use tasks::refusals;
@@ -22,7 +22,7 @@ pub enum Wrote {
 }
 
 // The first n bytes of a page, into a buffer.
-pub fn copy(buf: &mut [u8], page: &[u8], n: usize)
+fn copy(buf: &mut [u8], page: &[u8], n: usize)
     requires { ⌜ (n ≤ length (now buf)) × (n ≤ length (now page)) ⌝ }
     ensures { λ r. ⌜ now (buf .exit) ≡ take n (now (page .entry)) ++ drop n (now (buf .entry)) ⌝ }
 {

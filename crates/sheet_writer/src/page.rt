@@ -16,7 +16,7 @@ ghost use Rattle.sheet_form.specs.Sets.{lastApart, lineOf, textOf};
 ghost use Rattle.sheet_writer.specs.Page.{Puts, valueText};
 
 // One byte.
-pub fn put(page: &mut [u8; LONGEST], at: usize, b: u8) -> usize
+fn put(page: &mut [u8; LONGEST], at: usize, b: u8) -> usize
     requires { ⌜ at < longest ⌝ }
     ensures { λ r. ⌜ Puts (now (page .entry)) (now (page .exit)) at r (b ∷ []) ⌝ }
 {
@@ -25,7 +25,7 @@ pub fn put(page: &mut [u8; LONGEST], at: usize, b: u8) -> usize
 }
 
 // A fixed word.
-pub fn put_word(page: &mut [u8; LONGEST], at: usize, w: &[u8]) -> usize
+fn put_word(page: &mut [u8; LONGEST], at: usize, w: &[u8]) -> usize
     requires { ⌜ at + length (now w) ≤ longest ⌝ }
     ensures { λ r. ⌜ Puts (now (page .entry)) (now (page .exit)) at r (now (w .entry)) ⌝ }
 {
@@ -103,7 +103,7 @@ fn put_line(page: &mut [u8; LONGEST], at: usize, t: Task) -> usize
 }
 
 // The name's characters.
-pub fn put_name(page: &mut [u8; LONGEST], at: usize, name: [u8; 16]) -> usize
+fn put_name(page: &mut [u8; LONGEST], at: usize, name: [u8; 16]) -> usize
     requires { ⌜ at + 16 ≤ longest ⌝ }
     ensures { λ r. ⌜ Puts (now (page .entry)) (now (page .exit)) at r (take (characters name) name) ⌝ }
 {

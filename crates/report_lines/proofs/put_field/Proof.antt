@@ -1,7 +1,6 @@
 -- The word, then the number.
-use native.Mathlib.Omega.{arith}
 use borrow.Author.Needs.{needs}
-use Rattle.sheet_writer.proofs.Pages.{puts-then}
+use Rattle.texts.proofs.PutLaws.{puts-then}
 use Rattle.report_lines.specs.Lines.{field}
 use Rattle.report_lines.proofs.put_field.Statement.{statement}
 use Rattle.report_lines.proofs.put_field.Tie as tie
@@ -12,12 +11,12 @@ put-word-requires c κs = search needs
 put-number-requires : tie.Need-put-number-requires
 put-number-requires c κs = search needs
 
+same-length : tie.Need-same-length
+same-length c = search needs
+
 returns : tie.Need-returns
 unfolding field
-returns c =
-    let a = c .before .before .put-word .ensures in
-    let b = c .put-number .ensures in
-    (puts-then a (b .0), omega (arith, a .next, b .1))
+returns c = puts-then (c .before .before .before .before .before .before .put-word .ensures) (c .before .before .put-number .ensures)
 
 pub put-field-spec : {M : Type 1} → statement M
 put-field-spec =
@@ -25,4 +24,5 @@ put-field-spec =
     (tie.spec
     put-word-requires
     put-number-requires
+    same-length
     returns)

@@ -1,12 +1,8 @@
 -- The digits that `io::decimal` makes of a number are its text.
-use mathlib.Core.Path.{_≡_, ap, _∙_}
-use Prim.Native.Nat.{_≤_, _<_, _^_}
-use native.Mathlib.Omega.{arith}
-use lib.ListN.{length, take}
+use mathlib.Core.Path.{_∙_}
 use borrow.Author.Needs.{needs}
-use Rattle.sheet_writer.proofs.Pages.{puts-as}
-use Rattle.report_lines.specs.Lines.{numberText}
-use Rattle.report_lines.proofs.Numbers.{number-digits, number-length}
+use Rattle.texts.proofs.PutLaws.{puts-as}
+use Rattle.report_lines.proofs.Numbers.{number-digits}
 use Rattle.report_lines.proofs.put_number.Statement.{statement}
 use Rattle.report_lines.proofs.put_number.Tie as tie
 
@@ -19,24 +15,16 @@ array-share-prefix-digits c = search needs
 slice-aggregate-put-word : tie.Need-slice-aggregate-put-word
 slice-aggregate-put-word c = search needs
 
--- the digits are the number's text, and at most 20
-abbrev Read : Type 0
-Read = tie.After-digits2
-
-shown : (d : Read) → (take (d .before .before .decimal .result) (d .before .before .decimal .last .1 .0) ≡ numberText (d .before .before .before .before .args .n)) × (length (numberText (d .before .before .before .before .args .n)) ≤ 20)
-shown c =
-    let d = c .before .before .decimal in
-    let n = c .before .before .before .before .args .n in
-    let h : n < 10 ^ 20 = search needs in
-    (d .ensures .1 .1 ∙ number-digits (d .result) n (d .ensures .1 .0), number-length 19 n h)
-
 put-word-requires : tie.Need-put-word-requires
-put-word-requires c κs = omega (arith, ap length (shown c .0), shown c .1)
+put-word-requires c κs = search needs
+
+same-length : tie.Need-same-length
+same-length c = search needs
 
 returns : tie.Need-returns
 returns c =
-    let k = puts-as (c .put-word .ensures) (shown (c .before) .0) in
-    (k, omega (arith, k .next, shown (c .before) .1))
+    let d = c .before .before .before .before .before .decimal in
+    puts-as (c .before .before .put-word .ensures) (d .ensures .1 .1 ∙ number-digits (d .result) (c .before .before .before .before .before .before .before .before .args .n) (d .ensures .1 .0))
 
 pub put-number-spec : {M : Type 1} → statement M
 put-number-spec =
@@ -46,4 +34,5 @@ put-number-spec =
     array-share-prefix-digits
     slice-aggregate-put-word
     put-word-requires
+    same-length
     returns)

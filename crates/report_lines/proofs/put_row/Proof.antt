@@ -1,9 +1,7 @@
 -- The first index, the entries and LF.
-use native.Mathlib.Omega.{arith}
 use borrow.Author.Needs.{needs}
-use Rattle.sheet_writer.proofs.Pages.{puts-then}
-use Rattle.report_lines.specs.Lines.{bytes, rowLine}
-use Rattle.report_lines.proofs.Numbers.{field-length}
+use Rattle.texts.proofs.PutLaws.{puts-then}
+use Rattle.report_lines.specs.Lines.{rowLine}
 use Rattle.report_lines.proofs.put_row.Statement.{statement}
 use Rattle.report_lines.proofs.put_row.Tie as tie
 
@@ -14,18 +12,17 @@ put-field-requires : tie.Need-put-field-requires
 put-field-requires c κs = search needs
 
 put-entries-requires : tie.Need-put-entries-requires
-put-entries-requires c κs = omega (arith, c .before .put-field .ensures .1)
+put-entries-requires c κs = search needs
 
 put-requires : tie.Need-put-requires
-put-requires c κs = omega (arith, c .before .put-entries .ensures .1, c .before .before .before .put-field .ensures .1)
+put-requires c κs = search needs
+
+same-length : tie.Need-same-length
+same-length c = search needs
 
 returns : tie.Need-returns
 unfolding rowLine
-returns c =
-    let a = c .before .before .before .before .put-field .ensures .0 in
-    let b = c .before .before .put-entries .ensures in
-    let p = c .before .before .before .before .before .before .before .before .pre in
-    (puts-then (puts-then a (b .0)) (c .put .ensures), omega (arith, a .next, b .1, c .put .ensures .next, field-length (bytes "row ") 1 (c .before .before .before .before .before .before .before .before .args .first) (p .1)))
+returns c = puts-then (puts-then (c .before .before .before .before .before .before .before .before .before .before .put-field .ensures) (c .before .before .before .before .before .before .put-entries .ensures)) (c .before .before .put .ensures)
 
 pub put-row-spec : {M : Type 1} → statement M
 put-row-spec =
@@ -35,4 +32,5 @@ put-row-spec =
     put-field-requires
     put-entries-requires
     put-requires
+    same-length
     returns)

@@ -1,36 +1,31 @@
--- The first k rows are put.
-use mathlib.Core.Path.{_≡_, ap}
-use Prim.Native.Nat.{_+_, _-_, _*_, _/_, _≤_}
+-- The rows before an index are put: it is a multiple of eight, or the end.
+use mathlib.Core.Path.{_≡_, refl, ap}
+use mathlib.Core.Logic.{_⊎_, inl}
+use Prim.Native.Nat.{_+_, _-_, _/_, _%_, _≤_}
 use native.Mathlib.Omega.{arith}
-use lib.ListN.{length, drop, length-take}
+use lib.ListN.{length}
 use borrow.Author.Needs.{needs}
-use Rattle.sheet_writer.specs.Page.{Puts}
-use Rattle.sheet_writer.proofs.Pages.{puts-none, puts-then, puts-as}
-use Rattle.report_lines.specs.Lines.{rowLine, rowLines}
-use Rattle.report_lines.proofs.Rows.{rows-none, rows-more, row-part}
+use Rattle.texts.specs.Puts.{Puts}
+use Rattle.texts.proofs.PutLaws.{puts-none, puts-length, puts-then, puts-as}
+use Rattle.report_lines.specs.Lines.{rowLines}
+use Rattle.report_lines.proofs.Rows.{rows-none, row-end, row-next}
 use Rattle.report_lines.proofs.put_rows.Statement.{statement}
 use Rattle.report_lines.proofs.put_rows.Tie as tie
 
 abbrev Inv-loop : tie.InvT-loop
-Inv-loop text₀ at table j₀ k₀ text j k = (k ≤ (length table + 7) / 8) × (j ≤ at + 39 * k) × Puts text₀ text at j (rowLines table k)
+Inv-loop buf₀ at table j₀ first₀ buf j first = (first ≤ length table) × ((first % 8 ≡ 0) ⊎ (first ≡ length table)) × Puts buf₀ buf at j (rowLines table ((first + 7) / 8))
 
 abbrev μ-loop : tie.MeasureT-loop
-μ-loop text₀ at table j₀ k₀ text j k = length table - 8 * k
+μ-loop buf₀ at table j₀ first₀ buf j first = length table - first
 
 loop-holds : tie.Need-loop-holds Inv-loop μ-loop
-loop-holds c = (omega arith, omega arith, puts-as (puts-none _ _) (rows-none _))
-
-mul-loop : tie.Need-mul-loop Inv-loop μ-loop
-mul-loop c = omega arith
-
-mul-first : tie.Need-mul-first Inv-loop μ-loop
-mul-first c = omega arith
+loop-holds c = (omega arith, inl refl, puts-as (puts-none _ _) (rows-none _))
 
 row-end-requires : tie.Need-row-end-requires Inv-loop μ-loop
 row-end-requires c κs = omega arith
 
 sub-put-row : tie.Need-sub-put-row Inv-loop μ-loop
-sub-put-row c = omega arith
+sub-put-row c = omega (arith, c .before .row-end .ensures)
 
 part-put-row-start : tie.Need-part-put-row-start Inv-loop μ-loop
 part-put-row-start c = search needs
@@ -39,32 +34,28 @@ part-put-row-end : tie.Need-part-put-row-end Inv-loop μ-loop
 part-put-row-end c = search needs
 
 put-row-requires : tie.Need-put-row-requires Inv-loop μ-loop
-put-row-requires c κs =
-    let i = 8 * c .before .before .before .before .loop .k in
-    let t = c .before .before .before .before .before .before .args .table .now in
-    (omega arith, omega arith, omega (arith, length-take (c .before .before .row-end .result - i) (drop i t), c .before .before .row-end .ensures .0 .2))
-
-add-k : tie.Need-add-k Inv-loop μ-loop
-add-k c = omega arith
+put-row-requires c κs = search needs
 
 loop-less : tie.Need-loop-less Inv-loop μ-loop
-loop-less c = omega arith
+loop-less c = omega (arith, c .before .before .before .before .before .row-end .ensures, c .before .before .before .before .before .before .loop-test .taken)
 
 loop-again : tie.Need-loop-again Inv-loop μ-loop
 loop-again c =
-    let l = c .before .before .before .before .before .loop in
-    let t = c .before .before .before .before .before .before .before .args .table .now in
-    let e = c .before .before .before .row-end in
-    let r = c .put-row .ensures in
-    let p = row-part t (8 * l .k) (e .result) (e .ensures .0 .0) (e .ensures .0 .2) (e .ensures .1) in
-    (omega arith, omega (arith, r .1), puts-as (puts-then (l .inv .2) (puts-as (r .0) (ap (rowLine (8 * l .k)) p))) (rows-more t (l .k)))
+    let l = c .before .before .before .before .before .before .before .loop in
+    let t = c .before .before .before .before .before .before .before .before .before .before .args .table .now in
+    let e = c .before .before .before .before .before .row-end in
+    let h = c .before .before .before .before .before .before .loop-test .taken in
+    (omega (arith, e .ensures), row-end t (l .first) (e .result) h (l .inv .1) (e .ensures), puts-as (puts-then (l .inv .2) (c .before .before .put-row .ensures)) (row-next t (l .first) (e .result) h (l .inv .1) (e .ensures)))
+
+same-length : tie.Need-same-length Inv-loop μ-loop
+same-length c = puts-length (c .before .loop .inv .2)
 
 returns : tie.Need-returns Inv-loop μ-loop
 returns c =
     let l = c .before .loop in
-    let t = c .before .before .before .args .table .now in
-    let e : l .k ≡ (length t + 7) / 8 = omega arith in
-    (puts-as (l .inv .2) (ap (rowLines t) e), omega arith)
+    let t = c .before .before .before .before .args .table .now in
+    let e : l .first ≡ length t = omega (arith, l .inv .0, c .loop-test .left) in
+    puts-as (l .inv .2) (ap (λ n. rowLines t ((n + 7) / 8)) e)
 
 pub put-rows-spec : {M : Type 1} → statement M
 put-rows-spec =
@@ -73,14 +64,12 @@ put-rows-spec =
     Inv-loop
     μ-loop
     loop-holds
-    mul-loop
-    mul-first
     row-end-requires
     sub-put-row
     part-put-row-start
     part-put-row-end
     put-row-requires
-    add-k
     loop-less
     loop-again
+    same-length
     returns)

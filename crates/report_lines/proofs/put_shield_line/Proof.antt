@@ -1,10 +1,7 @@
 -- Three fields and LF.
-use Prim.Native.Nat.{_<_, _^_}
-use native.Mathlib.Omega.{arith}
 use borrow.Author.Needs.{needs}
-use Rattle.sheet_writer.proofs.Pages.{puts-then}
-use Rattle.report_lines.specs.Lines.{bytes, shieldLine}
-use Rattle.report_lines.proofs.Numbers.{field-length}
+use Rattle.texts.proofs.PutLaws.{puts-then}
+use Rattle.report_lines.specs.Lines.{shieldLine}
 use Rattle.report_lines.proofs.put_shield_line.Statement.{statement}
 use Rattle.report_lines.proofs.put_shield_line.Tie as tie
 
@@ -29,17 +26,13 @@ put-field-requires-3 c κs = search needs
 put-requires : tie.Need-put-requires
 put-requires c κs = search needs
 
+same-length : tie.Need-same-length
+same-length c = search needs
+
 returns : tie.Need-returns
 unfolding shieldLine
 returns c =
-    let a = c .before .before .before .before .before .before .before .before .put-field .ensures .0 in
-    let b = c .before .before .before .before .before .put-field2 .ensures .0 in
-    let d = c .before .before .put-field3 .ensures .0 in
-    let s = c .before .before .before .before .before .before .before .before .before .before .before .args in
-    let x : s .safe < 10 ^ 5 = search needs in
-    let y : s .rounds < 10 ^ 5 = search needs in
-    let z : s .start < 10 ^ 3 = search needs in
-    (puts-then (puts-then (puts-then a b) d) (c .put .ensures), omega (arith, a .next, b .next, d .next, c .put .ensures .next, field-length (bytes "shield ") 4 (s .safe) x, field-length (bytes " rounds ") 4 (s .rounds) y, field-length (bytes " start ") 2 (s .start) z))
+    puts-then (puts-then (puts-then (c .before .before .before .before .before .before .before .before .before .before .before .before .before .before .before .before .put-field .ensures) (c .before .before .before .before .before .before .before .before .before .before .before .put-field2 .ensures)) (c .before .before .before .before .before .before .put-field3 .ensures)) (c .before .before .put .ensures)
 
 pub put-shield-line-spec : {M : Type 1} → statement M
 put-shield-line-spec =
@@ -52,4 +45,5 @@ put-shield-line-spec =
     slice-aggregate-put-field-3
     put-field-requires-3
     put-requires
+    same-length
     returns)

@@ -3,10 +3,11 @@ use mathlib.Core.Path.{_≡_, sym, ap, _∙_}
 use native.Mathlib.Omega.{arith}
 use lib.ListN.{length, take}
 use borrow.Author.Needs.{needs}
-use Rattle.shield.specs.Shield.{shieldTable}
 use Rattle.tasks.specs.Sets.{statesOf}
-use Rattle.sheet_writer.proofs.Pages.{puts-then, puts-as}
-use Rattle.reporter.proofs.Reports.{shield-length, rows-left-out, rows-shown}
+use Rattle.shield.specs.Shield.{shieldTable}
+use Rattle.texts.proofs.PutLaws.{puts-then, puts-as}
+use Rattle.report_lines.specs.Lines.{setLine}
+use Rattle.reporter.proofs.Reports.{table-length, rows-left-out, rows-shown}
 use Rattle.reporter.proofs.put_done.Statement.{statement}
 use Rattle.reporter.proofs.put_done.Tie as tie
 
@@ -19,12 +20,14 @@ put-set-line-requires c κs = search needs
 put-shield-line-requires : tie.Need-put-shield-line-requires
 put-shield-line-requires c κs = search needs
 
+same-length : tie.Need-same-length
+same-length c = search needs
+
 returns : tie.Need-returns
 returns c =
-    let a = c .before .before .before .put-set-line .ensures in
-    let b = c .before .put-shield-line .ensures in
-    let s = c .before .before .before .before .before .before .before .args .set in
-    (puts-as (puts-then (a .0) (b .0)) (rows-left-out (statesOf s) (shieldTable s) _ (omega (arith, c .before .before .before .before .before .states .ensures, c .if1 .taken))), omega (arith, a .1, b .1))
+    let s = c .before .before .before .before .before .before .before .before .before .before .before .before .args .set in
+    let a = puts-as (c .before .before .before .before .before .before .before .put-set-line .ensures) (ap (setLine s) (c .before .before .before .before .before .before .before .before .before .states .ensures)) in
+    puts-as (puts-then a (c .before .before .before .put-shield-line .ensures)) (rows-left-out (statesOf s) (shieldTable s) _ (omega (arith, c .before .before .before .before .before .before .before .before .before .states .ensures, c .if1 .taken)))
 
 cast-size : tie.Need-cast-size
 cast-size c = search needs
@@ -33,24 +36,24 @@ cast-size c = search needs
 abbrev Sliced : Type 0
 Sliced = tie.After-put-rows-arg2
 
-first-entries : (d : Sliced) → take (d .before .before .before .before .before .before .before .states .result) (d .before .before .before .before .before .before .before .before .before .args .table .now) ≡ shieldTable (d .before .before .before .before .before .before .before .before .before .args .set)
-first-entries d = ap (λ n. take n (d .before .before .before .before .before .before .before .before .before .args .table .now)) (d .before .before .before .before .before .before .before .states .ensures) ∙ d .before .before .before .before .before .before .before .before .before .pre .0 .2
+first-entries : (d : Sliced) → take (d .before .before .before .before .before .before .before .before .before .before .before .states .result) (d .before .before .before .before .before .before .before .before .before .before .before .before .before .before .args .table .now) ≡ shieldTable (d .before .before .before .before .before .before .before .before .before .before .before .before .before .before .args .set)
+first-entries d = ap (λ n. take n (d .before .before .before .before .before .before .before .before .before .before .before .before .before .before .args .table .now)) (d .before .before .before .before .before .before .before .before .before .before .before .states .ensures) ∙ d .before .before .before .before .before .before .before .before .before .before .before .before .before .before .pre .1
 
 slice-aggregate-put-rows : tie.Need-slice-aggregate-put-rows
-slice-aggregate-put-rows c = c .before .before .before .before .before .before .before .states .ensures ∙ sym (ap length (first-entries c) ∙ shield-length (c .before .before .before .before .before .before .before .before .before .args .set))
+slice-aggregate-put-rows c = c .before .before .before .before .before .before .before .before .before .before .before .states .ensures ∙ sym (ap length (first-entries c) ∙ table-length (c .before .before .before .before .before .before .before .before .before .before .before .before .before .before .args .set))
 
 put-rows-requires : tie.Need-put-rows-requires
-put-rows-requires c κs =
-    (omega (arith, c .before .before .before .before .before .put-set-line .ensures .1, c .before .before .before .put-shield-line .ensures .1), omega (arith, ap length (first-entries c), shield-length (c .before .before .before .before .before .before .before .before .before .args .set), c .before .before .before .before .before .before .before .states .ensures, c .before .before .if1 .left))
+put-rows-requires c κs = search needs
+
+same-length-2 : tie.Need-same-length-2
+same-length-2 c = search needs
 
 returns-2 : tie.Need-returns-2
 returns-2 c =
-    let a = c .before .before .before .before .before .before .put-set-line .ensures in
-    let b = c .before .before .before .before .put-shield-line .ensures in
-    let r = c .put-rows .ensures in
-    let s = c .before .before .before .before .before .before .before .before .before .before .args .set in
-    let x = rows-shown (statesOf s) (shieldTable s) _ (omega (arith, c .before .before .before .before .before .before .before .before .states .ensures, c .before .before .before .if1 .left)) (shield-length s) (first-entries (c .before)) in
-    (puts-then (puts-then (a .0) (b .0)) (puts-as (r .0) x), omega (arith, a .1, b .1, r .1))
+    let s = c .before .before .before .before .before .before .before .before .before .before .before .before .before .before .before .before .before .args .set in
+    let a = puts-as (c .before .before .before .before .before .before .before .before .before .before .before .before .put-set-line .ensures) (ap (setLine s) (c .before .before .before .before .before .before .before .before .before .before .before .before .before .before .states .ensures)) in
+    let x = rows-shown (statesOf s) (shieldTable s) _ (omega (arith, c .before .before .before .before .before .before .before .before .before .before .before .before .before .before .states .ensures, c .before .before .before .before .before .if1 .left)) (table-length s) (first-entries (c .before .before .before)) in
+    puts-then (puts-then a (c .before .before .before .before .before .before .before .before .put-shield-line .ensures)) (puts-as (c .before .before .put-rows .ensures) x)
 
 pub put-done-spec : {M : Type 1} → statement M
 put-done-spec =
@@ -59,8 +62,10 @@ put-done-spec =
     states-requires
     put-set-line-requires
     put-shield-line-requires
+    same-length
     returns
     cast-size
     slice-aggregate-put-rows
     put-rows-requires
+    same-length-2
     returns-2)

@@ -1,14 +1,12 @@
--- The room first; then the lines on a page, and the page into the output.
-use mathlib.Core.Path.{sym}
+-- The room first; then the lines.
 use native.Mathlib.Omega.{arith}
 use borrow.Author.Needs.{needs}
-use Rattle.sheet_writer.proofs.Pages.{puts-length}
 use Rattle.reporter.proofs.Reports.{report-short, report-fits}
 use Rattle.reporter.proofs.report.Statement.{statement}
 use Rattle.reporter.proofs.report.Tie as tie
 
-cast-t9 : tie.Need-cast-t9
-cast-t9 c = search needs
+cast-t8 : tie.Need-cast-t8
+cast-t8 c = search needs
 
 returns : tie.Need-returns
 returns c =
@@ -18,16 +16,10 @@ returns c =
 put-sheet-requires : tie.Need-put-sheet-requires
 put-sheet-requires c κs = search needs
 
-slice-aggregate-copy : tie.Need-slice-aggregate-copy
-slice-aggregate-copy c = sym (puts-length (c .before .before .before .before .before .before .put-sheet .ensures .text))
-
-copy-requires : tie.Need-copy-requires
-copy-requires c κs =
+cast-t16 : tie.Need-cast-t16
+cast-t16 c =
     let k = c .before .before .before .before .before .before .put-sheet .ensures in
-    (omega (arith, k .short, c .before .before .before .before .before .before .before .before .before .before .if1 .left), omega (arith, k .short, puts-length (k .text)))
-
-cast-t21 : tie.Need-cast-t21
-cast-t21 c = search needs
+    omega (arith, k .text .next, k .short)
 
 same-length : tie.Need-same-length
 same-length c = search needs
@@ -40,19 +32,17 @@ same-length-3 c = search needs
 
 returns-2 : tie.Need-returns-2
 returns-2 c =
-    let a = c .before .before .before .before .before .before .before .before .before .before .before .before .before .before .before .before .before .before .args in
-    report-fits (a .sheet .now) (a .table .now) (a .work .now) (a .output .now) _ _ _ _ _ _ (c .before .before .before .before .before .before .before .before .before .before .before .before .before .if1 .left) (omega arith) (c .before .before .before .before .before .before .before .before .before .put-sheet .ensures) (c .before .before .copy .ensures)
+    let a = c .before .before .before .before .before .before .before .before .before .before .before .before .before .before .before .args in
+    report-fits (a .sheet .now) (a .table .now) (a .work .now) (a .output .now) _ _ _ _ (c .before .before .before .before .before .before .before .before .before .before .if1 .left) (c .before .before .before .before .before .before .put-sheet .ensures)
 
 pub report-spec : {M : Type 1} → statement M
 report-spec =
     tie.close
     (tie.spec
-    cast-t9
+    cast-t8
     returns
     put-sheet-requires
-    slice-aggregate-copy
-    copy-requires
-    cast-t21
+    cast-t16
     same-length
     same-length-2
     same-length-3
