@@ -1,8 +1,8 @@
 -- A line is mangled exactly when one of the six holds.
 use mathlib.Core.Bool.{Bool, true, false, not, _&&_, _||_, cond}
 use mathlib.Core.List.{List, [], _∷_}
-use mathlib.Core.Path.{_≡_, refl, ap, sym, _∙_}
-use Prim.Native.Nat.{ℕ, zero, suc, _+_, _/_, _<_, _≤_}
+use mathlib.Core.Path.{_≡_, refl, ap, _∙_}
+use Prim.Native.Nat.{ℕ, suc, _+_, _/_, _<_, _≤_}
 use native.Mathlib.Omega.{arith}
 use borrow.Author.Tests.{eq-eqb, ne-eqb, eqb-true, lt-ltb, leb-true}
 use lib.Dec.{eqb, leb, ltb}
@@ -15,7 +15,7 @@ use Rattle.commands.specs.declared.lines.Parsed.the-variants.{Mangled}
 use Rattle.commands.specs.declared.lines.Tried.{Tried}
 use Rattle.commands.specs.declared.lines.Tried.the-variants.{Unfit, Fits}
 use Rattle.commands.specs.Texts.{same}
-use Rattle.commands.specs.Words.{foundIf, within, isNumber, isBytes, numberIn, bytesIn, decimal, wellBegun}
+use Rattle.commands.specs.Words.{foundIf, isNumber, isBytes, numberIn, bytesIn, wellBegun}
 use Rattle.commands.specs.Buffers.{bufferOf}
 use Rattle.commands.specs.Forms.{asksBytes, rangeOf, bufferRangeOf, letterValue, valueOf, kept, noValues}
 use Rattle.commands.specs.Lines.{words, rows, fit, fitRows, parseOf, onValue, takenOr}
