@@ -1,13 +1,11 @@
 -- A line by a row, from a place of each on: the word that ends at `end` and the form that ends at `stop`.
 use mathlib.Core.List.{List, [], _∷_}
-use mathlib.Core.Path.{_≡_, refl, ap, sym, _∙_}
+use mathlib.Core.Path.{_≡_, refl, _∙_}
 use Prim.Native.Nat.{ℕ, _+_, _-_, _<_, _≤_}
-use native.Mathlib.Omega.{arith}
 use lib.ListN.{length, take, drop}
 use Rattle.commands.specs.declared.buffers.Lengths.{Lengths}
 use Rattle.commands.specs.declared.forms.Values.{Values}
 use Rattle.commands.specs.declared.numbers.Found.the-variants.{Nothing, Value}
-use Rattle.commands.specs.declared.lines.Tried.{Tried}
 use Rattle.commands.specs.declared.lines.Tried.the-variants.{Unfit, Fits}
 use Rattle.commands.specs.Texts.{before, parts}
 use Rattle.commands.specs.Forms.{valueOf, kept, noValues}

@@ -1,12 +1,12 @@
 -- A line is mangled exactly when one of the six holds.
 use mathlib.Core.Bool.{Bool, true, false, not, _&&_, _||_, cond}
 use mathlib.Core.List.{List, [], _∷_}
-use mathlib.Core.Path.{_≡_, refl, ap, sym, _∙_}
-use Prim.Native.Nat.{ℕ, zero, suc, _+_, _/_, _<_, _≤_}
+use mathlib.Core.Path.{_≡_, refl, ap, ap₂, sym, _∙_}
+use Prim.Native.Nat.{ℕ, suc, _+_, _/_, _<_, _≤_}
 use native.Mathlib.Omega.{arith}
 use borrow.Author.Tests.{eq-eqb, ne-eqb, eqb-true, lt-ltb, leb-true}
 use lib.Dec.{eqb, leb, ltb}
-use lib.ListN.{length, getD}
+use lib.ListN.{length, getD, drop}
 use Rattle.commands.specs.declared.buffers.Lengths.{Lengths}
 use Rattle.commands.specs.declared.forms.Values.{Values}
 use Rattle.commands.specs.declared.numbers.Found.{Found}
@@ -14,13 +14,13 @@ use Rattle.commands.specs.declared.numbers.Found.the-variants.{Nothing, 
 use Rattle.commands.specs.declared.lines.Parsed.the-variants.{Mangled}
 use Rattle.commands.specs.declared.lines.Tried.{Tried}
 use Rattle.commands.specs.declared.lines.Tried.the-variants.{Unfit, Fits}
-use Rattle.commands.specs.Texts.{same}
-use Rattle.commands.specs.Words.{foundIf, within, isNumber, isBytes, numberIn, bytesIn, decimal, wellBegun}
+use Rattle.commands.specs.Texts.{same, before, parts, inFront}
+use Rattle.commands.specs.Words.{foundIf, isNumber, isBytes, numberIn, bytesIn, wellBegun}
 use Rattle.commands.specs.Buffers.{bufferOf}
 use Rattle.commands.specs.Forms.{asksBytes, rangeOf, bufferRangeOf, letterValue, valueOf, kept, noValues}
 use Rattle.commands.specs.Lines.{words, rows, fit, fitRows, parseOf, onValue, takenOr}
 use Rattle.commands.proofs.TextLaws.{some-part}
-use Rattle.commands.specs.Mangled.{some, isFound, isFit, isMangled, hasForm, formed, named, counted, tooLong, badlySpaced, noCommand, wrongNumber, badForm, outOfRange, oneHolds}
+use Rattle.commands.specs.Mangled.{some, endsInSpace, twoTogether, isFound, isFit, isMangled, hasForm, formed, named, counted, tooLong, badlySpaced, noCommand, wrongNumber, badForm, outOfRange, oneHolds}
 
 and-left : (a b : Bool) → (a && b) ≡ true → a ≡ true
 and-left true b h = refl
@@ -90,7 +90,7 @@ formed-number [] (w ∷ ws) h = let z : _≡_ {A = ℕ} 0 1 = cc in let n : ⊥ 
 formed-number (f ∷ fs) [] h = let z : _≡_ {A = ℕ} 0 1 = cc in let n : ⊥ = omega arith in absurd n
 formed-number (f ∷ fs) (w ∷ ws) h = ap suc (formed-number fs ws (and-right (hasForm f w) _ h))
 
--- no text in the form of an empty word
+-- an empty word has no form
 form-some : (f : List ℕ) → hasForm f [] ≡ false
 unfolding hasForm same bufferOf isBytes isNumber wellBegun
 form-some [] = step (asksBytes 0)
@@ -168,6 +168,75 @@ module _ (l : Lengths) (ws : List (List ℕ)) where
       step true p q k = formed-spaced (words row) ws (row-formed row p)
       step false p q k = k q
 
+-- RULE 2: NO WORD IS EMPTY
+
+abbrev none : List ℕ → Bool
+none w = eqb (length w) 0
+
+clash : {A : Type 0} → _≡_ {A = Bool} true false → A
+clash h = let z : _≡_ {A = ℕ} 0 1 = ap (λ b. cond b 0 1) h in let n : ⊥ = omega arith in absurd n
+
+or-none : (a b : Bool) → (a || b) ≡ false → b ≡ false
+or-none true b h = clash h
+or-none false b h = h
+
+-- a byte in front of a line, by whether it is a space
+module _ (x : ℕ) (l : List ℕ) where
+  with-first : (t : Bool) → eqb x 32 ≡ t → words (x ∷ l) ≡ cond t ([] ∷ words l) (inFront x (words l))
+  unfolding parts
+  with-first t e = ap (λ t. cond t ([] ∷ words l) (inFront x (words l))) e
+
+  front-rest : drop 1 (inFront x (words l)) ≡ drop 1 (words l)
+  front-rest = ap (λ ps. drop 1 (inFront x ps)) (some-part 32 l) ∙ refl
+
+-- a line without an empty word has a byte, and does not begin with a space
+begins : (l : List ℕ) → some none (words l) ≡ false → (eqb (length l) 0 ≡ false) × (eqb (getD l 0 0) 32 ≡ false)
+unfolding parts
+begins [] h = clash h
+begins (x ∷ l) h = (ne-eqb (length (x ∷ l)) 0 (λ e. omega arith), step (eqb x 32) refl)
+  where
+    step : (t : Bool) → eqb x 32 ≡ t → t ≡ false
+    step true e = clash (sym (ap (some none) (with-first x l true e)) ∙ h)
+    step false e = refl
+
+rest-none : (l : List ℕ) → some none (words l) ≡ false → some none (drop 1 (words l)) ≡ false
+rest-none l h = or-none (none (before 32 l)) _ (sym (ap (some none) (some-part 32 l)) ∙ h)
+
+-- where no word but the first is empty, no space is last, and none stands beside another
+inside : (l : List ℕ) → some none (drop 1 (words l)) ≡ false → (endsInSpace l ≡ false) × (twoTogether l ≡ false)
+unfolding parts endsInSpace twoTogether
+inside [] h = (refl, refl)
+inside (x ∷ []) h = (step (eqb x 32) refl, refl)
+  where
+    step : (t : Bool) → eqb x 32 ≡ t → t ≡ false
+    step true e = clash (sym (ap (λ ws. some none (drop 1 ws)) (with-first x [] true e)) ∙ h)
+    step false e = refl
+inside (x ∷ y ∷ l) h = step (eqb x 32) refl (inside (y ∷ l))
+  where
+    step : (t : Bool) → eqb x 32 ≡ t → (some none (drop 1 (words (y ∷ l))) ≡ false → (endsInSpace (y ∷ l) ≡ false) × (twoTogether (y ∷ l) ≡ false)) → (endsInSpace (y ∷ l) ≡ false) × (((eqb x 32 && eqb y 32) || twoTogether (y ∷ l)) ≡ false)
+    step true e k =
+        let g : some none (words (y ∷ l)) ≡ false = sym (ap (λ ws. some none (drop 1 ws)) (with-first x (y ∷ l) true e)) ∙ h in
+        let r = k (rest-none (y ∷ l) g) in
+        (r .0, ap₂ (λ a b. (a && b) || twoTogether (y ∷ l)) e (begins (y ∷ l) g .1) ∙ r .1)
+    step false e k =
+        let g = sym (ap (λ ws. some none (drop 1 ws)) (with-first x (y ∷ l) false e) ∙ ap (some none) (front-rest x (y ∷ l))) ∙ h in
+        let r = k g in
+        (r .0, ap (λ a. (a && eqb y 32) || twoTogether (y ∷ l)) e ∙ r .1)
+
+well-spaced : (l : List ℕ) → some none (words l) ≡ false → badlySpaced l ≡ false
+well-spaced l h =
+    let b = begins l h in
+    let r = inside l (rest-none l h) in
+    simp (b .0, b .1, r .0, r .1)
+
+-- a line that fits no row has the wrong forms, or is out of range
+others : (a b c d : Bool) → true ≡ (a || (b || (c || (d || (not d && true)))))
+others true b c d = refl
+others false true c d = refl
+others false false true d = refl
+others false false false true = refl
+others false false false false = refl
+
 -- a line is mangled exactly when one of the six holds
 pub mangled-exactly : (l : Lengths) (line : List ℕ) → isMangled (parseOf l line) ≡ oneHolds l line
 unfolding parseOf
@@ -176,8 +245,8 @@ mangled-exactly l line = step (tooLong line)
     fitting : (t : Bool) → some (fits l (words line)) rows ≡ t →
         not t ≡ (badlySpaced line || (noCommand line || (wrongNumber line || (badForm line || outOfRange l line))))
     fitting true e =
-        simp (rows-spaced l (words line) rows e, some-more _ _ (row-named l (words line)) rows e, some-more _ _ (row-counted l (words line)) rows e, some-more _ _ (row-formed l (words line)) rows e, e)
-    fitting false e = simp (e, or-true)
+        simp (well-spaced line (rows-spaced l (words line) rows e), some-more _ _ (row-named l (words line)) rows e, some-more _ _ (row-counted l (words line)) rows e, some-more _ _ (row-formed l (words line)) rows e, e)
+    fitting false e = simp e (others (badlySpaced line) (noCommand line) (wrongNumber line) (badForm line))
 
     step : (t : Bool) → isMangled (cond t Mangled (fitRows l 0 rows (words line))) ≡ (t || (badlySpaced line || (noCommand line || (wrongNumber line || (badForm line || outOfRange l line)))))
     step true = refl

@@ -1,15 +1,15 @@
 -- Laws of texts: a text from a place on, split at a byte, and compared.
 use mathlib.Core.Bool.{Bool, true, false, _&&_}
 use mathlib.Core.List.{List, [], _∷_}
-use mathlib.Core.Path.{_≡_, refl, ap, sym, _∙_}
-use Prim.Native.Nat.{ℕ, zero, suc, _+_, _-_, _<_, _≤_}
+use mathlib.Core.Path.{_≡_, refl, ap}
+use Prim.Native.Nat.{ℕ, suc, _+_, _-_, _<_, _≤_}
 use native.Mathlib.Numerals.{add-one}
 use native.Mathlib.Omega.{arith}
 use borrow.Author.Tests.{eq-eqb, ne-eqb}
 use lib.Dec.{eqb}
 use lib.ListN.{length, take, drop, getD, length-drop, drop-of-length-le}
 use lib.Seq.{drop-cons, drop-drop}
-use Rattle.commands.specs.Texts.{before, inFront, parts, same}
+use Rattle.commands.specs.Texts.{before, parts, same}
 
 module _ (b : ℕ) (l : List ℕ) (i : ℕ) where
   pub before-here : i < length l → getD l i 0 ≡ b → length (before b (drop i l)) ≡ 0

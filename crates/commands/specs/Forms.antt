@@ -4,7 +4,7 @@
 -- U a buffer, L a length, O an offset, C a count, I a task, F 0 or 1, B a byte, H 16 bits, W 32 bits, N a name, T a text.
 use mathlib.Core.Bool.{Bool, _||_, cond}
 use mathlib.Core.List.{List}
-use Prim.Native.Nat.{ℕ, zero, suc, _+_, _-_, min}
+use Prim.Native.Nat.{ℕ, _+_, _-_, min}
 use lib.Dec.{eqb, leb}
 use lib.ListN.{getD}
 use Rattle.commands.specs.declared.buffers.Lengths.{Lengths}

@@ -8,7 +8,6 @@ use Rattle.commands.specs.declared.buffers.Lengths.{Lengths}
 use Rattle.commands.specs.declared.forms.Values.{Values}
 use Rattle.commands.specs.declared.numbers.Found.{Found}
 use Rattle.commands.specs.declared.numbers.Found.the-variants as Found
-use Rattle.commands.specs.declared.lines.Command.{Command}
 use Rattle.commands.specs.declared.lines.Parsed.{Parsed}
 use Rattle.commands.specs.declared.lines.Parsed.the-variants.{Mangled, Taken}
 use Rattle.commands.specs.declared.lines.Tried.{Tried}

@@ -57,9 +57,21 @@ counted fs ws = named fs ws && eqb (length fs) (length ws)
 abbrev pub tooLong : List ℕ → Bool
 tooLong line = ltb 255 (length line)
 
+-- two spaces stand together
+unfoldable pub twoTogether : List ℕ → Bool
+twoTogether [] = false
+twoTogether (x ∷ []) = false
+twoTogether (x ∷ y ∷ l) = (eqb x 32 && eqb y 32) || twoTogether (y ∷ l)
+
+-- the last byte is a space
+unfoldable pub endsInSpace : List ℕ → Bool
+endsInSpace [] = false
+endsInSpace (x ∷ []) = eqb x 32
+endsInSpace (x ∷ y ∷ l) = endsInSpace (y ∷ l)
+
 -- 2: it has no byte, or begins or ends with a space, or has two spaces together
 abbrev pub badlySpaced : List ℕ → Bool
-badlySpaced line = some (λ w. eqb (length w) 0) (words line)
+badlySpaced line = eqb (length line) 0 || (eqb (getD line 0 0) 32 || (endsInSpace line || twoTogether line))
 
 -- 3: its first word is no command of the page
 abbrev pub noCommand : List ℕ → Bool
@@ -73,9 +85,9 @@ wrongNumber line = not (some (λ row. counted (words row) (words line)) rows)
 abbrev pub badForm : List ℕ → Bool
 badForm line = not (some (λ row. formed (words row) (words line)) rows)
 
--- 6: a number is outside its range, or the bytes are too many or too few
+-- 6: the forms are right, but a number is outside its range, or the bytes are too many or too few
 abbrev pub outOfRange : Lengths → List ℕ → Bool
-outOfRange l line = not (some (λ row. isFit (fit l noValues 0 (words row) (words line))) rows)
+outOfRange l line = not (badForm line) && not (some (λ row. isFit (fit l noValues 0 (words row) (words line))) rows)
 
 -- a line is mangled exactly when one of these holds
 abbrev pub oneHolds : Lengths → List ℕ → Bool

@@ -39,7 +39,7 @@ fn is_hexadecimal(word: &[u8]) -> bool
 }
 
 // How many bytes a word says, if that is at least lo and below end.
-pub fn count(word: &[u8], lo: u64, end: u64) -> Found
+pub(crate) fn count(word: &[u8], lo: u64, end: u64) -> Found
     requires { ⌜ end ≤ 4294967296 ⌝ }
     ensures { λ r. ⌜ r ≡ bytesIn lo end (now (word .entry)) ⌝ }
 {
