@@ -7,6 +7,8 @@ use guard::runs::Counts;
 use guard::runs::Run;
 use tasks::sets::Set;
 use tasks::sets::Task;
+ghost use mathlib.Core.Path.{_≡_};
+ghost use Rattle.replay.specs.After.{noSet, noRun, noDesk};
 
 pub struct Desk {
     pub set: Set,
@@ -14,7 +16,9 @@ pub struct Desk {
     pub lengths: Lengths,
 }
 
-fn no_set() -> Set {
+fn no_set() -> Set
+    ensures { λ r. ⌜ r ≡ noSet ⌝ }
+{
     Set {
         name: [0; 16],
         count: 0,
@@ -27,7 +31,9 @@ fn no_set() -> Set {
     }
 }
 
-fn no_run() -> Run {
+fn no_run() -> Run
+    ensures { λ r. ⌜ r ≡ noRun ⌝ }
+{
     Run {
         states: [TaskState {
             age: 0,
@@ -46,7 +52,9 @@ fn no_run() -> Run {
 }
 
 // Everything as at the beginning.
-pub fn fresh() -> Desk {
+pub fn fresh() -> Desk
+    ensures { λ r. ⌜ r ≡ noDesk ⌝ }
+{
     let set = no_set();
     let run = no_run();
     Desk {

@@ -15,6 +15,8 @@ use commands::lines::Command;
 use commands::lines::Parsed;
 use desk::Desk;
 use libc::STDIN_FILENO;
+ghost use Rattle.commands.specs.Lines.{parseOf};
+ghost use Rattle.replay.specs.After.{heldOf, CommandAfter, LineAfter};
 
 // Of a line that is too long, one byte more than a line may have is kept.
 const KEPT: u32 = 256;
@@ -46,7 +48,9 @@ fn carry_out(
     work: &mut [u8],
     file: &mut [u8],
     text: &mut [u8],
-) -> Desk {
+) -> Desk
+    ensures { λ r. ⌜ CommandAfter (c .kind) (c .values) (now (line .entry)) (heldOf d (now (table .entry)) (now (work .entry)) (now (file .entry)) (now (text .entry))) (heldOf r (now (table .exit)) (now (work .exit)) (now (file .exit)) (now (text .exit))) ⌝ }
+{
     let mut after = d;
     let set = d.set;
     let run = d.run;
@@ -80,7 +84,9 @@ fn answer(
     work: &mut [u8],
     file: &mut [u8],
     text: &mut [u8],
-) -> Desk {
+) -> Desk
+    ensures { λ r. ⌜ LineAfter (parseOf (d .lengths) (now (line .entry))) (now (line .entry)) (heldOf d (now (table .entry)) (now (work .entry)) (now (file .entry)) (now (text .entry))) (heldOf r (now (table .exit)) (now (work .exit)) (now (file .exit)) (now (text .exit))) ⌝ }
+{
     let l = d.lengths;
     let parsed = lines::parse(line, l);
     match parsed {

@@ -13,8 +13,18 @@ use table_file::opener::Opened;
 use table_file::writer;
 use table_file::writer::Written;
 use tasks::sets::Set;
+ghost use mathlib.Core.List.{List};
+ghost use mathlib.Core.Path.{_≡_};
+ghost use Prim.Native.Nat.{ℕ, min};
+ghost use lib.ListN.{length};
+ghost use Rattle.table_file.specs.Open.{openOf, handed};
+ghost use Rattle.replay.specs.Bytes.{putAt};
+ghost use Rattle.replay.specs.Steps.{buffersOf};
+ghost use Rattle.replay.specs.After.{Building, fileAfter, openedLength, openedTable, TablesAfter};
 
-fn build(s: Set, table: &mut [u8], work: &mut [u8]) {
+fn build(s: Set, table: &mut [u8], work: &mut [u8])
+    ensures { λ _. ⌜ Building s (now (table .entry)) (now (work .entry)) (now (table .exit)) (now (work .exit)) ⌝ }
+{
     let built = builder::build(s, table, work);
     match built {
         Built::Done {
@@ -38,7 +48,9 @@ fn test(s: Set, table: &[u8]) {
     }
 }
 
-fn write(s: Set, table: &[u8], file: &mut [u8]) {
+fn write(s: Set, table: &[u8], file: &mut [u8])
+    ensures { λ _. ⌜ now (file .exit) ≡ fileAfter s (now (table .entry)) (now (file .entry)) ⌝ }
+{
     let written = writer::write(s, table, file);
     match written {
         Written::Length(n) => say::last(b"file ", n),
@@ -47,7 +59,10 @@ fn write(s: Set, table: &[u8], file: &mut [u8]) {
 }
 
 // The part that an opened file hands back becomes the table, whose new length is answered.
-fn take(part: &[u8], table: &mut [u8]) -> u32 {
+fn take(part: &[u8], table: &mut [u8]) -> u32
+    ensures { λ r. ⌜ r ≡ min (length (now (part .entry))) 4294967295 ⌝ }
+    ensures { λ _. ⌜ now (table .exit) ≡ putAt 0 (now (part .entry)) (now (table .entry)) ⌝ }
+{
     let n = bytes::size(part);
     bytes::copy(part, table);
     say::number(b"part ", n);
@@ -56,7 +71,10 @@ fn take(part: &[u8], table: &mut [u8]) -> u32 {
 }
 
 // The table's length after opening the file: n where that is refused.
-fn open(s: Set, file: &[u8], n: u32, table: &mut [u8]) -> u32 {
+fn open(s: Set, file: &[u8], n: u32, table: &mut [u8]) -> u32
+    ensures { λ r. ⌜ r ≡ openedLength (openOf s (now (file .entry))) (handed s (now (file .entry))) n ⌝ }
+    ensures { λ _. ⌜ now (table .exit) ≡ openedTable (openOf s (now (file .entry))) (handed s (now (file .entry))) (now (table .entry)) ⌝ }
+{
     let opened = opener::verdict(s, file);
     match opened {
         Opened::Opens => take(opener::open(s, file), table),
@@ -75,7 +93,9 @@ pub fn carry_out(
     table: &mut [u8],
     work: &mut [u8],
     file: &mut [u8],
-) -> Lengths {
+) -> Lengths
+    ensures { λ r. ⌜ ((x : List ℕ) → TablesAfter s (buffersOf l (now (table .entry)) (now (work .entry)) (now (file .entry)) x) (c .kind) (buffersOf r (now (table .exit)) (now (work .exit)) (now (file .exit)) x)) ⌝ }
+{
     let t = bytes::within(l.table, table);
     let w = bytes::within(l.work, work);
     let f = bytes::within(l.file, file);

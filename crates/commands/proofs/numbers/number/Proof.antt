@@ -7,7 +7,7 @@ use mathlib.Core.Path.{_≡_, refl, sym, _∙_}
 use Prim.Native.Nat.{_-_, _<_, _≤_}
 use native.Mathlib.Omega.{arith}
 use lib.ListN.{length, drop}
-use Rattle.commands.specs.Words.{each, digit, decimalFrom, wellBegun, numberIn}
+use Rattle.commands.specs.Words.{each, digit, decimalFrom, wellBegun}
 use Rattle.commands.proofs.numbers.number.Statement.{statement}
 use Rattle.commands.proofs.numbers.number.Tie as tie
 

@@ -1,5 +1,5 @@
 -- The bytes behind those of the text.
-use mathlib.Core.Path.{_≡_, refl, sym, ap, _∙_}
+use mathlib.Core.Path.{_∙_}
 use borrow.Author.Needs.{needs}
 use Rattle.replay.proofs.buffer_commands.add_text.Statement.{statement}
 use Rattle.replay.proofs.buffer_commands.add_text.Tie as tie

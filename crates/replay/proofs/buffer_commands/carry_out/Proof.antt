@@ -1,5 +1,5 @@
 -- The text behind, or the buffer that is named.
-use mathlib.Core.Path.{_≡_, refl, sym, ap, _∙_}
+use mathlib.Core.Path.{sym}
 use borrow.Author.Tests.{eq-eqb, ne-eqb}
 use Rattle.replay.specs.Steps.{buffersAfter}
 use borrow.Author.Needs.{needs}

@@ -1,6 +1,6 @@
 -- The sum of the bytes before i.
-use mathlib.Core.Path.{_≡_, refl, sym, ap, _∙_}
-use Prim.Native.Nat.{_+_, _-_, _<_, _≤_}
+use mathlib.Core.Path.{_≡_, refl, sym, _∙_}
+use Prim.Native.Nat.{_-_, _<_, _≤_}
 use lib.ListN.{length, drop}
 use Rattle.replay.specs.Bytes.{adlerFrom}
 use Rattle.replay.proofs.BytesLaws.{adler-next, adler-end}

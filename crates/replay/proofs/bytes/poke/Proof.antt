@@ -1,5 +1,5 @@
 -- The byte, or none.
-use mathlib.Core.Path.{_≡_, refl, sym, ap, _∙_}
+use mathlib.Core.Path.{sym}
 use Rattle.replay.proofs.BytesLaws.{set-beyond}
 use borrow.Author.Needs.{needs}
 use Rattle.replay.proofs.bytes.poke.Statement.{statement}

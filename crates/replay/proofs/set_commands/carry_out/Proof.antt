@@ -2,7 +2,7 @@
 use mathlib.Core.List.{_++_}
 use lib.ListN.{drop}
 use native.Mathlib.Omega.{arith}
-use mathlib.Core.Path.{_≡_, refl, sym, ap, _∙_}
+use mathlib.Core.Path.{_≡_, sym, ap, _∙_}
 use borrow.Author.Tests.{eq-eqb, ne-eqb}
 use Rattle.replay.specs.Steps.{setAfter, textAfter}
 use Rattle.replay.proofs.BytesLaws.{within-take, within-drop}

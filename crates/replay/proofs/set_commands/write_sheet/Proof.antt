@@ -1,5 +1,5 @@
 -- What the writer leaves.
-use mathlib.Core.Path.{_≡_, refl, sym, ap, _∙_}
+use mathlib.Core.Path.{ap}
 use borrow.Author.Needs.{needs}
 use Rattle.replay.proofs.set_commands.write_sheet.Statement.{statement}
 use Rattle.replay.proofs.set_commands.write_sheet.Tie as tie

@@ -1,5 +1,5 @@
 -- The bytes before i are those of the name.
-use mathlib.Core.Path.{_≡_, refl, sym, ap, _∙_}
+use mathlib.Core.Path.{_≡_, refl, sym, _∙_}
 use Prim.Native.Nat.{_-_, _≤_}
 use Rattle.replay.specs.Bytes.{putAt, said}
 use Rattle.replay.proofs.BytesLaws.{said-next, said-end, set-is}
