@@ -13,7 +13,7 @@ use Rattle.arena.specs.Arena.{shield}
 use Rattle.arena.proofs.Tests.{lt-or-le}
 use Rattle.tasks.specs.declared.refusals.Refusal.{Refusal}
 use Rattle.tasks.specs.declared.sets.Set.{Set}
-use Rattle.tasks.specs.Refusals.{bufferTooShort}
+use Rattle.tasks.specs.Refusals.{short}
 use Rattle.tasks.specs.Sets.{statesOf, Passed}
 use Rattle.tasks.proofs.Valid.{passed-valid}
 use Rattle.game.specs.Game.{arenaOf}
@@ -107,13 +107,13 @@ module _ (sheet t w : List ℕ) (q : SheetRead) (e : q ≡ readText sheet) where
 
 -- the output has no room, or has it
 module _ (sheet t w o : List ℕ) where
-  pub report-short : length o < room → leaving (Refused (record { number = bufferTooShort; place = room })) t w o ≡ reportOf sheet t w o
+  pub report-short : length o < room → leaving (Refused (short room)) t w o ≡ reportOf sheet t w o
   unfolding reportOf
-  report-short h = sym (ap (λ b. cond b (leaving (Refused (record { number = bufferTooShort; place = room })) t w o) (placed (toldOf sheet t w) o)) (lt-ltb (length o) room h))
+  report-short h = sym (ap (λ b. cond b (leaving (Refused (short room)) t w o) (placed (toldOf sheet t w) o)) (lt-ltb (length o) room h))
 
   pub report-room : room ≤ length o → reportOf sheet t w o ≡ placed (toldOf sheet t w) o
   unfolding reportOf
-  report-room h = ap (λ b. cond b (leaving (Refused (record { number = bufferTooShort; place = room })) t w o) (placed (toldOf sheet t w) o)) (le-ltb (length o) room h)
+  report-room h = ap (λ b. cond b (leaving (Refused (short room)) t w o) (placed (toldOf sheet t w) o)) (le-ltb (length o) room h)
 
   pub report-fits : (q : List ℕ) (n : ℕ) (t′ w′ : List ℕ) → room ≤ length o → Tells o q n t′ w′ (toldOf sheet t w) → leaving (Length n) t′ w′ q ≡ reportOf sheet t w o
   report-fits q n t′ w′ h k = same (toldOf sheet t w) k ∙ sym (report-room h)
@@ -132,10 +132,10 @@ module _ (sheet t w o : List ℕ) where
   unfolding reportOf
   report-within r t′ w′ o′ n e a = go (ltb (length o) room) e
     where
-      go : (b : Bool) → leaving r t′ w′ o′ ≡ cond b (leaving (Refused (record { number = bufferTooShort; place = room })) t w o) (placed (toldOf sheet t w) o)
+      go : (b : Bool) → leaving r t′ w′ o′ ≡ cond b (leaving (Refused (short room)) t w o) (placed (toldOf sheet t w) o)
           → n ≤ length o′
       go true q =
-          let l : Length n ≡ Refused (record { number = bufferTooShort; place = room }) = sym a ∙ ap (λ (y : Left). y .answer) q in
+          let l : Length n ≡ Refused (short room) = sym a ∙ ap (λ (y : Left). y .answer) q in
           let z : _≡_ {A = ℕ} 0 1 = cc in
           absurd (omega arith)
       go false q =

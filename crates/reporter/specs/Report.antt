@@ -6,7 +6,7 @@ use Prim.Native.Nat.{ℕ, _≤_}
 use lib.Dec.{ltb}
 use lib.ListN.{length, drop}
 use Rattle.tasks.specs.declared.sets.Set.{Set}
-use Rattle.tasks.specs.Refusals.{Said, answered, refusing, bufferTooShort}
+use Rattle.tasks.specs.Refusals.{Said, answered, refusing, short}
 use Rattle.tasks.specs.Sets.{statesOf}
 use Rattle.shield.specs.declared.builder.Built.{Built}
 use Rattle.shield.specs.declared.builder.Built.the-variants as Built
@@ -64,7 +64,7 @@ placed x o = leaving (Length (length (x .text))) (x .table) (x .work) (x .text +
 -- an output without room for every report: 7, before all else, and no byte changes
 unfoldable pub reportOf : List ℕ → List ℕ → List ℕ → List ℕ → Left
 reportOf sheet t w o =
-    cond (ltb (length o) room) (leaving (Refused (record { number = bufferTooShort; place = room })) t w o)
+    cond (ltb (length o) room) (leaving (Refused (short room)) t w o)
     (placed (toldOf sheet t w) o)
 
 -- the output p has become q, with a report from its first byte on up to n, and table and work have become t and w

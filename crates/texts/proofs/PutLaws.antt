@@ -4,8 +4,8 @@ use mathlib.Core.Logic.{⊎-elim}
 use mathlib.Core.List.{List, [], _∷_, _++_}
 use Prim.Native.Nat.{ℕ, suc, _+_, _≤_}
 use native.Mathlib.Omega.{arith}
-use lib.ListN.{length, drop, set, length-append, length-set}
-use lib.Seq.{sets, sets-eq, set-out, length-sets}
+use lib.ListN.{length, take, drop, set, length-append, length-set}
+use lib.Seq.{sets, sets-eq, set-out, length-sets, take-at}
 use Rattle.arena.proofs.Tests.{lt-or-le}
 use Rattle.texts.specs.Puts.{Puts}
 
@@ -48,3 +48,8 @@ pub puts-whole : {p q text : List ℕ} {n : ℕ} → Puts p q 0 n text → lengt
 puts-whole {p} {q} {text} {n} k h =
     let e : 0 + length text ≡ length text = omega arith in
     (omega (arith, k .next), k .bytes ∙ sets-eq text p 0 (omega arith) ∙ ap (λ m. text ++ drop m p) e)
+
+pub puts-take : {p q text : List ℕ} {n : ℕ} → Puts p q 0 n text → length text ≤ length p → take n q ≡ text
+puts-take {p} {q} {text} {n} k h =
+    let w = puts-whole k h in
+    ap (take n) (w .1) ∙ take-at text (drop (length text) p) n (sym (w .0))

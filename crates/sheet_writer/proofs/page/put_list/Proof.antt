@@ -1,14 +1,15 @@
 -- The values below v are put, each with its comma.
-use mathlib.Core.Path.{_≡_, ap}
+use mathlib.Core.Path.{_≡_, ap, _∙_}
 use Prim.Native.Nat.{_-_, _≤_}
 use native.Mathlib.Omega.{arith}
 use borrow.Author.Needs.{needs}
 use Rattle.tasks.specs.Lists.{values, longestOf}
 use Rattle.tasks.proofs.ListLaws.{longest-pos, longest-le}
+use Rattle.texts.specs.Puts.{Puts}
+use Rattle.texts.proofs.PutLaws.{puts-none, puts-length, puts-then, puts-as}
 use Rattle.sheet_form.specs.Form.{each, decimal, withComma}
-use Rattle.sheet_form.proofs.Lengths.{firsts-length, top-text}
-use Rattle.sheet_writer.specs.Page.{Puts}
-use Rattle.sheet_writer.proofs.Pages.{puts-none, puts-then, puts-as, value-more}
+use Rattle.sheet_form.proofs.Lengths.{top-text}
+use Rattle.sheet_writer.proofs.Pages.{value-more}
 use Rattle.sheet_writer.proofs.page.put_list.Statement.{statement}
 use Rattle.sheet_writer.proofs.page.put_list.Tie as tie
 
@@ -22,57 +23,41 @@ longest-requires : tie.Need-longest-requires Inv-loop μ-loop
 longest-requires c κs = search needs
 
 cast-top : tie.Need-cast-top Inv-loop μ-loop
-cast-top c = omega (arith, c .longest .ensures, longest-le (c .before .args .list))
+cast-top c = omega (arith, c .longest .ensures, longest-le (c .before .before .args .list))
 
 loop-holds : tie.Need-loop-holds Inv-loop μ-loop
 unfolding values
-loop-holds c =
-    let m = c .before .args .list in
-    (omega arith, omega (arith, c .longest .ensures, longest-pos m (c .before .pre .1)), puts-none _ _)
+loop-holds c = (omega arith, omega (arith, c .longest .ensures, longest-pos (c .before .before .args .list) (c .before .before .pre)), puts-none _ _)
 
 put-value-requires : tie.Need-put-value-requires Inv-loop μ-loop
-put-value-requires c κs =
-    let c3 = c .before .before .before in
-    let c4 = c3 .before in
-    let m = c4 .args .list in
-    let l = c .before .before .loop in
-    (omega (arith, l .inv .2 .next, firsts-length (l .v - 1) 1 m, c3 .longest .ensures, longest-le m, c4 .pre .0, c .before .loop-test .taken), omega (arith, c3 .longest .ensures, longest-le m, c .before .loop-test .taken))
+put-value-requires c κs = omega (arith, c .before .before .before .longest .ensures, longest-le (c .before .before .before .before .before .args .list), c .before .loop-test .taken)
 
 add-v : tie.Need-add-v Inv-loop μ-loop
-add-v c =
-    let c4 = c .before .before .before .before in
-    let c5 = c4 .before in
-    omega (arith, c4 .longest .ensures, longest-le (c5 .args .list), c .before .before .loop-test .taken)
+add-v c = omega (arith, c .before .before .before .before .before .before .longest .ensures, longest-le (c .before .before .before .before .before .before .before .before .args .list), c .before .before .before .before .loop-test .taken)
 
 loop-less : tie.Need-loop-less Inv-loop μ-loop
-loop-less c = omega (arith, c .before .before .loop-test .taken)
+loop-less c = omega (arith, c .before .before .before .before .loop-test .taken)
 
 loop-again : tie.Need-loop-again Inv-loop μ-loop
 loop-again c =
-    let c3 = c .before .before .before in
-    let c4 = c3 .before in
-    let c5 = c4 .before in
-    let m = c5 .args .list in
-    let l = c3 .loop in
-    (omega arith, omega (arith, c .before .before .loop-test .taken), puts-as (puts-then (l .inv .2) (c .put-value .ensures)) (value-more m (l .v) (l .inv .0) (omega (arith, c4 .longest .ensures, longest-le m, c .before .before .loop-test .taken))))
+    let m = c .before .before .before .before .before .before .before .before .args .list in
+    let l = c .before .before .before .before .before .loop in
+    let h = c .before .before .before .before .loop-test .taken in
+    (omega arith, omega arith, puts-as (puts-then (l .inv .2) (c .before .before .put-value .ensures)) (value-more m (l .v) (l .inv .0) (omega (arith, c .before .before .before .before .before .before .longest .ensures, longest-le m))))
 
 put-number-requires : tie.Need-put-number-requires Inv-loop μ-loop
-put-number-requires c κs =
-    let c3 = c .before .before .before in
-    let c4 = c3 .before in
-    let m = c4 .args .list in
-    let l = c .before .before .loop in
-    (omega (arith, l .inv .2 .next, firsts-length (l .v - 1) 1 m, c3 .longest .ensures, longest-le m, c4 .pre .0), omega (arith, c3 .longest .ensures, longest-le m))
+put-number-requires c κs = omega (arith, c .before .before .before .longest .ensures, longest-le (c .before .before .before .before .before .args .list))
+
+same-length : tie.Need-same-length Inv-loop μ-loop
+same-length c = puts-length (c .before .before .put-number .ensures) ∙ puts-length (c .before .before .before .before .before .loop .inv .2)
 
 returns : tie.Need-returns Inv-loop μ-loop
 returns c =
-    let c3 = c .before .before .before in
-    let c4 = c3 .before in
-    let c5 = c4 .before in
-    let m = c5 .args .list in
-    let l = c3 .loop in
-    let e : l .v ≡ longestOf m = omega (arith, c4 .longest .ensures, c .before .before .loop-test .left) in
-    puts-as (puts-then (puts-as (l .inv .2) (ap (λ n. each withComma (values (n - 1) 1 m)) e)) (puts-as (c .put-number .ensures) (ap decimal (c4 .longest .ensures)))) (top-text m (c5 .pre .1))
+    let m = c .before .before .before .before .before .before .before .before .args .list in
+    let l = c .before .before .before .before .before .loop in
+    let t = c .before .before .before .before .before .before .longest .ensures in
+    let e : l .v ≡ longestOf m = omega (arith, t, c .before .before .before .before .loop-test .left) in
+    puts-as (puts-then (puts-as (l .inv .2) (ap (λ n. each withComma (values (n - 1) 1 m)) e)) (puts-as (c .before .before .put-number .ensures) (ap decimal t))) (top-text m (c .before .before .before .before .before .before .before .before .pre))
 
 pub put-list-spec : {M : Type 1} → statement M
 put-list-spec =
@@ -88,4 +73,5 @@ put-list-spec =
     loop-less
     loop-again
     put-number-requires
+    same-length
     returns)
