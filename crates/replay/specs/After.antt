@@ -2,14 +2,15 @@
 use mathlib.Core.Bool.{Bool, true, false, cond}
 use mathlib.Core.List.{List, _++_}
 use mathlib.Core.Path.{_≡_}
-use Prim.Native.Nat.{ℕ, min}
-use lib.Dec.{eqb, leb}
-use lib.ListN.{length, take, drop, replicate}
+use Prim.Native.Nat.{ℕ, _+_, _%_, _^_, min}
+use lib.Dec.{eqb, leb, ltb}
+use lib.ListN.{length, take, drop, replicate, set as listSet}
 use Rattle.commands.specs.declared.buffers.Lengths.{Lengths}
 use Rattle.commands.specs.declared.forms.Values.{Values}
 use Rattle.commands.specs.declared.lines.Parsed.{Parsed}
 use Rattle.commands.specs.declared.lines.Parsed.the-variants.{Mangled, Taken}
 use Rattle.commands.specs.Kinds as kind
+use Rattle.commands.specs.Lines.{parseOf}
 use Rattle.tasks.specs.declared.sets.Set.{Set}
 use Rattle.tasks.specs.Sets.{noTask}
 use Rattle.game.specs.States.{noState}
@@ -23,6 +24,7 @@ use Rattle.guard.specs.declared.runs.Awaited.the-variants.{Nothing}
 use Rattle.guard.specs.declared.runs.Run.{Run}
 use Rattle.guard.specs.Runs.{noCounts}
 use Rattle.replay.specs.declared.desk.Desk.{Desk}
+use Rattle.replay.specs.declared.Log.{Log}
 use Rattle.replay.specs.Bytes.{putAt}
 use Rattle.replay.specs.Steps.{Buffers, buffersOf, buffersAfter, setAfter, textAfter, runAfter}
 
@@ -140,3 +142,30 @@ module _ (k : ℕ) (vs : Values) (line : List ℕ) (h : Held) where
 abbrev pub LineAfter : Parsed → List ℕ → Held → Held → Type 0
 LineAfter Mangled line h h′ = h′ ≡ h
 LineAfter (Taken c) line h h′ = CommandAfter (c .kind) (c .values) line h h′
+
+-- THE LOG, BYTE BY BYTE
+
+-- what is held, the bytes of the line so far, and the number of lines before it
+pub record Logged : Type 0 where
+  pub held : Held
+  pub line : List ℕ
+  pub used : ℕ
+  pub lines : ℕ
+
+abbrev pub loggedOf : Log → List ℕ → List ℕ → List ℕ → List ℕ → List ℕ → Logged
+loggedOf g line t w f x = record { held = heldOf (g .desk) t w f x; line = line; used = g .used; lines = g .lines }
+
+-- an LF ends the line
+pub record Ended (g g′ : Logged) : Type 0 where
+  pub held : LineAfter (parseOf (g .held .buffers .lengths) (take (g .used) (g .line))) (take (g .used) (g .line)) (g .held) (g′ .held)
+  pub line : g′ .line ≡ g .line
+  pub used : g′ .used ≡ 0
+  pub lines : g′ .lines ≡ (g .lines + 1) % 2 ^ 64
+
+-- any other byte goes behind those of the line, of which 256 are kept: one more than a line may have
+abbrev pub lineWith : ℕ → Logged → Logged
+lineWith b g =
+    cond (ltb (g .used) 256) (record { held = g .held; line = listSet (g .line) (g .used) b; used = g .used + 1; lines = g .lines }) g
+
+unfoldable pub ByteAfter : ℕ → Logged → Logged → Type 0
+ByteAfter b g g′ = either (eqb b 10) (Ended g g′) (g′ ≡ lineWith b g)

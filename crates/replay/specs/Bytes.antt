@@ -1,7 +1,9 @@
 -- Bytes of a buffer: filled, put in, and summed.
+use mathlib.Core.Bool.{cond}
 use mathlib.Core.List.{List, [], _∷_}
 use Prim.Native.Nat.{ℕ, zero, suc, _+_, _*_, _%_}
-use lib.ListN.{set}
+use lib.Dec.{leb}
+use lib.ListN.{length, set, take, drop}
 use Rattle.commands.specs.Words.{byteAt}
 
 -- the k bytes from place i on become v; a place beyond the buffer has no byte
@@ -26,3 +28,7 @@ adlerFrom a b (x ∷ l) = adlerFrom ((a + x) % 65521) ((b + (a + x) % 65521) % 6
 
 abbrev pub adlerOf : List ℕ → ℕ
 adlerOf l = adlerFrom 1 0 l
+
+-- n bytes from a place on; none where the buffer has fewer
+abbrev pub partOf : ℕ → ℕ → List ℕ → List ℕ
+partOf i n l = cond (leb (i + n) (length l)) (take n (drop i l)) []

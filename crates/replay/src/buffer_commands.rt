@@ -12,13 +12,9 @@ ghost use Rattle.replay.specs.Steps.{lengthAfter, bytesAfter, buffersOf,
 
 // So many bytes from a place on.
 fn show(buf: &[u8], from: u32, count: u32) {
-    let start = from as usize;
-    let end = start + count as usize;
-    if end <= buf.len() {
-        say::say(b"bytes ");
-        say::bytes(&buf[start..end]);
-        say::say(b"\n");
-    }
+    say::say(b"bytes ");
+    say::bytes(bytes::part(buf, from, count));
+    say::say(b"\n");
 }
 
 fn sum(n: u32, buf: &[u8]) {

@@ -4,7 +4,7 @@ ghost use mathlib.Core.Path.{_≡_};
 ghost use Prim.Native.Nat.{_+_, _-_, _%_, _<_, min};
 ghost use lib.ListN.{length, set, drop};
 ghost use Rattle.io.specs.Counts.{Counts};
-ghost use Rattle.replay.specs.Bytes.{filled, putAt, said, adlerOf};
+ghost use Rattle.replay.specs.Bytes.{filled, putAt, said, adlerOf, partOf};
 
 // A byte of a number that a command has from 0 to 255.
 pub fn byte(n: u32) -> u8
@@ -42,6 +42,18 @@ pub fn behind<'a>(line: &'a [u8]) -> &'a [u8]
         return &line[..0];
     }
     &line[5..]
+}
+
+// So many bytes from a place on; none where the buffer has fewer.
+pub fn part<'a>(buf: &'a [u8], from: u32, count: u32) -> &'a [u8]
+    ensures { λ r. ⌜ now r ≡ partOf from count (now (buf .entry)) ⌝ }
+{
+    let start = from as usize;
+    let end = start + count as usize;
+    if end <= buf.len() {
+        return &buf[start..end];
+    }
+    &buf[..0]
 }
 
 // The byte at a place becomes v, if there is such a byte.

@@ -16,7 +16,7 @@ use commands::lines::Parsed;
 use desk::Desk;
 use libc::STDIN_FILENO;
 ghost use Rattle.commands.specs.Lines.{parseOf};
-ghost use Rattle.replay.specs.After.{heldOf, CommandAfter, LineAfter};
+ghost use Rattle.replay.specs.After.{heldOf, CommandAfter, LineAfter, loggedOf, Ended, ByteAfter};
 
 // Of a line that is too long, one byte more than a line may have is kept.
 const KEPT: u32 = 256;
@@ -106,7 +106,9 @@ fn end_line(
     work: &mut [u8],
     file: &mut [u8],
     text: &mut [u8],
-) -> Log {
+) -> Log
+    ensures { λ r. ⌜ Ended (loggedOf g (now (line .entry)) (now (table .entry)) (now (work .entry)) (now (file .entry)) (now (text .entry))) (loggedOf r (now (line .entry)) (now (table .exit)) (now (work .exit)) (now (file .exit)) (now (text .exit))) ⌝ }
+{
     let number = std::num::wrapping_add_u64(g.lines, 1);
     let d = g.desk;
     let used = bytes::within(g.used, line);
@@ -128,7 +130,9 @@ fn take_byte(
     work: &mut [u8],
     file: &mut [u8],
     text: &mut [u8],
-) -> Log {
+) -> Log
+    ensures { λ r. ⌜ ByteAfter b (loggedOf g (now (line .entry)) (now (table .entry)) (now (work .entry)) (now (file .entry)) (now (text .entry))) (loggedOf r (now (line .exit)) (now (table .exit)) (now (work .exit)) (now (file .exit)) (now (text .exit))) ⌝ }
+{
     if b == b'\n' {
         return end_line(g, line, table, work, file, text);
     }
