@@ -4,7 +4,7 @@ use mathlib.Core.List.{List, _++_}
 use mathlib.Core.Path.{_≡_}
 use Prim.Native.Nat.{ℕ, _+_, _%_, _^_, min}
 use lib.Dec.{eqb, leb, ltb}
-use lib.ListN.{length, take, drop, replicate, set as listSet}
+use lib.ListN.{length, getD, take, drop, replicate, set as listSet}
 use Rattle.commands.specs.declared.buffers.Lengths.{Lengths}
 use Rattle.commands.specs.declared.forms.Values.{Values}
 use Rattle.commands.specs.declared.lines.Parsed.{Parsed}
@@ -169,3 +169,8 @@ lineWith b g =
 
 unfoldable pub ByteAfter : ℕ → Logged → Logged → Type 0
 ByteAfter b g g′ = either (eqb b 10) (Ended g g′) (g′ ≡ lineWith b g)
+
+-- the first i bytes of a piece, one after the other
+pub data Reads (p : List ℕ) : ℕ → Logged → Logged → Type 0 where
+  noByte : {g : Logged} → Reads p 0 g g
+  oneMore : {i : ℕ} {g g₁ g₂ : Logged} → Reads p i g g₁ → ByteAfter (getD p i 0) g₁ g₂ → Reads p (i + 1) g g₂

@@ -15,8 +15,9 @@ use commands::lines::Command;
 use commands::lines::Parsed;
 use desk::Desk;
 use libc::STDIN_FILENO;
+ghost use lib.ListN.{length};
 ghost use Rattle.commands.specs.Lines.{parseOf};
-ghost use Rattle.replay.specs.After.{heldOf, CommandAfter, LineAfter, loggedOf, Ended, ByteAfter};
+ghost use Rattle.replay.specs.After.{heldOf, CommandAfter, LineAfter, loggedOf, Ended, ByteAfter, Reads};
 
 // Of a line that is too long, one byte more than a line may have is kept.
 const KEPT: u32 = 256;
@@ -153,7 +154,9 @@ fn take_piece(
     work: &mut [u8],
     file: &mut [u8],
     text: &mut [u8],
-) -> Log {
+) -> Log
+    ensures { λ r. ⌜ Reads (now (piece .entry)) (length (now (piece .entry))) (loggedOf g (now (line .entry)) (now (table .entry)) (now (work .entry)) (now (file .entry)) (now (text .entry))) (loggedOf r (now (line .exit)) (now (table .exit)) (now (work .exit)) (now (file .exit)) (now (text .exit))) ⌝ }
+{
     let mut next = g;
     let mut i = 0;
     while i < piece.len() {
