@@ -20,7 +20,8 @@ use Rattle.sheet_reader.specs.declared.ReadAnswer.the-variants as Read
 use Rattle.sheet_reader.specs.Reading.{readText}
 use Rattle.sheet_reader.proofs.Readings.{read-lines}
 use Rattle.report_lines.specs.Lines.{bytes, digitsTo, numberText, field, setLine, shieldLine, rowLine, rowLines, rowsText}
-use Rattle.reporter.specs.Report.{Told, builtText, room, Left, reportOf}
+use Rattle.tasks.specs.Refusals.{answered}
+use Rattle.reporter.specs.Report.{Told, builtText, room, Left, reportOf, toldOf, saidReported}
 use Rattle.reporter.proofs.Reports.{told-taken, report-room}
 
 abbrev line : Line
@@ -70,8 +71,12 @@ pair-text : builtText (setOf pair) (Done 15 1 6) ≡ pairReport
 unfolding values shortestOf longestOf lengthOf listed nameByte characters localsOf statesTo localOf stateOf inRange indexTo localAt runnable can tickOf outcomesTo arenaOf names marks listTo listOf padded setLine shieldLine rowLine rowLines rowsText field numberText digitsTo
 pair-text = refl
 
--- with room for 16 states and for a report, the output begins with the lines on PAIR
-pub pair-report : (t w o : List ℕ) → 16 ≤ length t → 16 ≤ length w → room ≤ length o → reportOf pairText t w o .output ≡ pairReport ++ drop 98 o
+-- with room for 16 states and for a report, the answer is 98 bytes, and the output begins with the lines on PAIR
+pub pair-report : (t w o : List ℕ) → 16 ≤ length t → 16 ≤ length w → room ≤ length o
+    → let x = reportOf pairText t w o in (saidReported (x .answer) ≡ answered (98 ∷ [])) × (x .output ≡ pairReport ++ drop 98 o)
 pair-report t w o h k l =
-    ap (λ (x : Left). x .output) (report-room pairText t w o l)
-    ∙ ap (λ x. x ++ drop (length x) o) (sym (ap (λ (x : Told). x .text) (told-taken pairText t w (record { answer = Read.Taken; set = setOf pair }) (sym pair-read) refl)) ∙ ap (builtText (setOf pair)) (pair-built (length t) (length w) h k) ∙ pair-text)
+    let e : toldOf pairText t w .text ≡ pairReport =
+    sym (ap (λ (x : Told). x .text) (told-taken pairText t w (record { answer = Read.Taken; set = setOf pair }) (sym pair-read) refl))
+    ∙ ap (builtText (setOf pair)) (pair-built (length t) (length w) h k) ∙ pair-text in
+    let r = report-room pairText t w o l in
+    (ap (λ (x : Left). saidReported (x .answer)) r ∙ ap (λ x. answered (length x ∷ [])) e, ap (λ (x : Left). x .output) r ∙ ap (λ x. x ++ drop (length x) o) e)
