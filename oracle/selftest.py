@@ -1,8 +1,8 @@
 """The oracle's self-test. Exits with 1 if there is a difference.
 
 First the figures of document 01 (P1 to P12 and the others), then the
-cases in which two careful readers could differ (numbered 1 to 26 as in
-the list of readings), then comparisons of the oracle with slower or
+cases in which two careful readers could differ (numbered 1 to 26),
+then comparisons of the oracle with slower or
 different definitions of the same things, then replay, the example of
 docs/REPLAY.md, made batches and the stored batch.
 """
