@@ -1,10 +1,14 @@
--- Safe runs with the table that the builder made. Assumes nothing.
+-- Safe runs with the table that the builder made, and with one that a file hands back. Assumes nothing.
 use mathlib.Core.Path.{_≡_}
 use mathlib.Core.List.{List}
 use Prim.Native.Nat.{ℕ, _≤_, _<_}
 use Rattle.tasks.specs.declared.sets.Set.{Set}
 use Rattle.shield.specs.declared.builder.Built.{Built}
+use Rattle.tasks.specs.Sets.{statesOf}
+use Rattle.shield.specs.Entries.{Bytes}
 use Rattle.shield.specs.Build.{Builds}
+use Rattle.table_file.specs.Open.{handed}
+use Rattle.table_file.proofs.Trips.{Opens, handed-passes}
 use Rattle.promises.proofs.Shield.{Answered, built-bytes, built-passes}
 use Rattle.guard.specs.declared.runs.Awaited.the-variants.{Nothing}
 use Rattle.guard.specs.declared.asks.Chosen.the-variants.{Choice}
@@ -24,3 +28,8 @@ module _ (s : Set) (t w t′ w′ : List ℕ) (r : Built) (B : Builds s t w r t�
       → reached s t′ reading cs .awaited ≡ Nothing → reached s t′ reading cs .ticks < tickLimit
       → (c : ℕ) × (askOf s t′ (reached s t′ reading cs) p .answer ≡ Choice c)
   built-answers = safe-answers s t′ (built-bytes s t w t′ w′ r B a) (built-passes s t w t′ w′ r B a)
+
+-- and for the part that a file hands back
+pub opened-runs : (s : Set) (file : List ℕ) → Opens s file → Bytes (statesOf s) (handed s file)
+    → (reading : ℕ) (cs : List Call) (c : Call) → Clean (saidBy s (handed s file) (reached s (handed s file) reading cs) c)
+opened-runs s file o b = safe-runs s (handed s file) b (handed-passes s file o)

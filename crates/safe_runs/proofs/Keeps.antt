@@ -11,9 +11,11 @@ use Rattle.arena.proofs.Tests.{by-cond, nor, and-left, and-right, and-by, T-tru
 use Rattle.tasks.specs.declared.sets.Task.{Task}
 use Rattle.tasks.specs.declared.sets.Set.{Set}
 use Rattle.tasks.specs.Refusals.{answered, refusing, bufferTooShort, stateDoesNotFit, outOfTurn, ticksUsedUp, proposalAboveCount, badEntry, wrongReading, impossibleOutcome, hardMiss}
-use Rattle.tasks.specs.Sets.{cmax, amax, taskAt, statesOf, Passed}
+use Rattle.tasks.specs.declared.sets.Tested.{Tested}
+use Rattle.tasks.specs.declared.sets.Tested.the-variants as Tested
+use Rattle.tasks.specs.Sets.{cmax, amax, taskAt, statesOf, testSet, Passed}
 use Rattle.tasks.proofs.ListLaws.{longest-pos}
-use Rattle.tasks.proofs.Valid.{ValidTask, passed-valid}
+use Rattle.tasks.proofs.Valid.{ValidTask, passed, passed-valid}
 use Rattle.game.specs.declared.states.TaskState.{TaskState}
 use Rattle.game.specs.States.{inRange, noState, stateAt, indexOf}
 use Rattle.shield.specs.Entries.{names, entryAt}
@@ -272,3 +274,33 @@ asked s q table r p c =
   where
     no : {n place : ℕ} → refusing 1 (record { number = suc n; place = place }) ≡ answered (c ∷ []) → ⊥
     no z = omega (arith, ap (λ a. a .number) z)
+
+-- A REFUSED CALL RETURNS THE RUN AS IT WAS GIVEN, for any set, table and run
+module _ (s : Set) (table : List ℕ) (r : Run) where
+  ask-refused : (p : ℕ) → (saidChosen (askOf s table r p .answer) .number ≡ 0 → ⊥) → askOf s table r p .run ≡ r
+  unfolding askGiven
+  ask-refused p = by (testSet s) refl
+    where
+      by : (t : Tested) → testSet s ≡ t → (saidChosen (askTested s table r p t .answer) .number ≡ 0 → ⊥) → askTested s table r p t .run ≡ r
+      by (Tested.Refused f) q = λ _. refl
+      by (Tested.States n) q =
+          subst (λ t. (saidChosen (askTested s table r p t .answer) .number ≡ 0 → ⊥) → askTested s table r p t .run ≡ r) q
+          (ask-case s (passed s n q) table r p (λ a. (saidChosen (a .answer) .number ≡ 0 → ⊥) → a .run ≡ r)
+          (λ _ _. refl) (λ _ _. refl) (λ _ _. refl) (λ _ _. refl) (λ _ _. refl) (λ _ _. refl) (λ _ z. absurd (z refl)))
+
+  report-refused : (reading : ℕ) (finished : Bool) (arrivals : ℕ) → (saidTaken (reportOf s r reading finished arrivals .answer) .number ≡ 0 → ⊥) → reportOf s r reading finished arrivals .run ≡ r
+  report-refused reading finished arrivals = tested (testSet s)
+    where
+      awaited : (a : Awaited) → (saidTaken (reportAwaited s r reading finished arrivals a .answer) .number ≡ 0 → ⊥) → reportAwaited s r reading finished arrivals a .run ≡ r
+      awaited Awaited.Nothing = λ _. refl
+      awaited (Awaited.Choice c) =
+          by-cond (λ (a : Reported). (saidTaken (a .answer) .number ≡ 0 → ⊥) → a .run ≡ r) (eqb reading (nextReading (r .reading))) _ _
+          (λ _. named-case s r _ (λ a. (saidTaken (a .answer) .number ≡ 0 → ⊥) → a .run ≡ r) (λ _ _. refl) (λ _ _ _. refl) (λ _ _ z. absurd (z refl))) (λ _ _. refl)
+
+      tested : (t : Tested) → (saidTaken (reportTested s r reading finished arrivals t .answer) .number ≡ 0 → ⊥) → reportTested s r reading finished arrivals t .run ≡ r
+      tested (Tested.Refused f) = λ _. refl
+      tested (Tested.States n) = by-cond (λ (a : Reported). (saidTaken (a .answer) .number ≡ 0 → ⊥) → a .run ≡ r) (fits s r) _ _ (λ _. awaited (r .awaited)) (λ _ _. refl)
+
+  pub refused-keeps : (c : Call) → (saidBy s table r c .number ≡ 0 → ⊥) → runBy s table r c ≡ r
+  refused-keeps (ask p) = ask-refused p
+  refused-keeps (report reading finished arrivals) = report-refused reading finished arrivals
