@@ -125,8 +125,7 @@ module _ (s : Set) (t w t′ w′ : List ℕ) (r : Built) (B : Builds s t w r t�
   pub built-passes : TestPasses s t′
   unfolding arenaOf
   built-passes =
-      ap (λ v. saidVerdict v .number)
-      (tested-iff s (M .set) t′ built-bytes room .0 (subst T (sym same) (Exact.shield-iff (arenaOf s) (sound s (M .set)) .1 (subst T (sym start-safe) tt))))
+      tested-iff s (M .set) t′ built-bytes room .0 (subst T (sym same) (Exact.shield-iff (arenaOf s) (sound s (M .set)) .1 (subst T (sym start-safe) tt)))
     where
       room : statesOf s ≤ length t′
       room = omega (arith, ap length built-table ∙ length-append (shieldTable s) (drop (statesOf s) t), list-length (λ i. entryOf (shield (arenaOf s) i)) (statesOf s))
@@ -139,9 +138,8 @@ module _ (s : Set) (t w t′ w′ : List ℕ) (r : Built) (B : Builds s t w r t�
       → (i k : ℕ) → i < statesOf s → k < 8 → T (names (entryAt table i) k) → T (names (entryAt t′ i) k)
   unfolding arenaOf
   largest table bytes e i k h l n =
-      let v = said-passes s table e in
-      let u = passes-tried s table v in
-      let q = tested-iff s (u .set) table bytes (u .long) .1 v in
+      let u = passes-tried s table (said-passes s table e) in
+      let q = tested-iff s (u .set) table bytes (u .long) .1 e in
       subst T (sym (built-names i k h l)) (Exact.largest (arenaOf s) (sound s (u .set)) (namesIn table) q .1 i k h l n)
 
   -- NO FREEDOM: it answers the number of safe states, R and the start's entry
@@ -172,9 +170,8 @@ module _ (s : Set) (t w t′ w′ : List ℕ) (r : Built) (B : Builds s t w r t�
   pub none-passes : (table : List ℕ) → Bytes (statesOf s) table → TestPasses s table → ⊥
   unfolding arenaOf
   none-passes table bytes e =
-      let v = said-passes s table e in
       T-not (passes (arenaOf s) (namesIn table)) (Exact.none-passes (arenaOf s) (sound s (N .set)) (unsafe .0) (namesIn table))
-      (tested-iff s (N .set) table bytes (passes-tried s table v .long) .1 v)
+      (tested-iff s (N .set) table bytes (passes-tried s table (said-passes s table e) .long) .1 e)
 
 -- a valid set with room enough: the builder's answer goes by whether the start is safe
 module _ (s : Set) (p : Passed s) (t w t′ w′ : List ℕ) (ht : statesOf s ≤ length t) (hw : statesOf s ≤ length w) (r : Built) (B : Builds s t w r t′ w′) where

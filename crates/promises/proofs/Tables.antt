@@ -15,11 +15,10 @@ use Rattle.tasks.specs.declared.sets.Set.{Set}
 use Rattle.tasks.specs.Sets.{statesOf, Passed}
 use Rattle.game.specs.Game.{arenaOf}
 use Rattle.game.proofs.Sound.{sound}
-use Rattle.shield.specs.declared.tester.Verdict.the-variants.{Passes}
 use Rattle.shield.specs.Entries.{names, entryAt, Bytes, live}
-use Rattle.shield.specs.Test.{faulty, testOf}
+use Rattle.shield.specs.Test.{faulty, testOf, saidVerdict}
 use Rattle.shield.proofs.EntryLaws.{names-none}
-use Rattle.shield.proofs.Tested.{passes-tried, tried-passes}
+use Rattle.shield.proofs.Tested.{passes-tried, tried-passes, said-passes}
 
 -- what a table of bytes names
 abbrev pub namesIn : List ℕ → ℕ → ℕ → Bool
@@ -65,5 +64,8 @@ module _ (s : Set) (p : Passed s) (table : List ℕ) (bytes : Bytes (statesOf s)
       parts i h = nor (eqb i 0 && not (used (arenaOf s) (namesIn table) i)) _ (subst (λ b. T (not b)) (faulty-at s p table bytes i h) (right i h))
 
   -- the tester passes a table that is long enough exactly if the table passes the game's test
-  pub tested-iff : statesOf s ≤ length table → T (passes (arenaOf s) (namesIn table)) ↔ (testOf s table ≡ Passes)
-  tested-iff room = (λ t. tried-passes s table (record { set = p; long = room; right = none-faulty t }), λ e. no-fault-passes (passes-tried s table e .right))
+  pub tested-iff : statesOf s ≤ length table → T (passes (arenaOf s) (namesIn table)) ↔ (saidVerdict (testOf s table) .number ≡ 0)
+  tested-iff room = (
+    λ t. ap (λ v. saidVerdict v .number) (tried-passes s table (record { set = p; long = room; right = none-faulty t })),
+    λ e. no-fault-passes (passes-tried s table (said-passes s table e) .right),
+  )

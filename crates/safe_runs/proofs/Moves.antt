@@ -17,7 +17,7 @@ use Rattle.arena.specs.Arena as arena
 use Rattle.arena.proofs.Tests.{nor, and-left, and-right, T-true, T-false, not-not, decide, lt-or-le, first-least, first-hit, first-none}
 use Rattle.tasks.specs.declared.sets.Task.{Task}
 use Rattle.tasks.specs.declared.sets.Set.{Set}
-use Rattle.tasks.specs.Refusals.{wrongReading, impossibleOutcome, hardMiss, stateDoesNotFit}
+use Rattle.tasks.specs.Refusals.{answered, refusing, wrongReading, impossibleOutcome, hardMiss, stateDoesNotFit}
 use Rattle.tasks.specs.Sets.{taskAt, statesTo, Passed}
 use Rattle.game.specs.declared.states.TaskState.{TaskState}
 use Rattle.game.specs.States.{stateAt, indexOf, taskStateAt}
@@ -197,22 +197,25 @@ module _ (s : Set) (q : Passed s) (r : Run) (fit : T (fits s r)) (c : ℕ) (e : 
 
   -- a report that names none is refused with 18
   pub other-refused : (finished : Bool) (arrivals : ℕ) → T (impossible s (r .states) (said finished arrivals))
-      → reportOf s r (nextReading (r .reading)) finished arrivals ≡ reportRefused r impossibleOutcome 0
+      → let a = reportOf s r (nextReading (r .reading)) finished arrivals in
+      (saidTaken (a .answer) ≡ refusing 0 (record { number = impossibleOutcome; place = 0 })) × (a .run ≡ r)
   unfolding reportNamed
   other-refused finished arrivals t =
       let o = said finished arrivals in
       let m = firstSuch s (r .states) o true in
-      report-right finished arrivals ∙ ap (λ b. cond b (reportRefused r impossibleOutcome 0) (cond (ltb m (s .count)) (reportRefused r hardMiss (suc m)) (record { answer = Taken.Done; run = runAfter s r o }))) (T-true (impossible s (r .states) o) t)
+      let e = report-right finished arrivals ∙ ap (λ b. cond b (reportRefused r impossibleOutcome 0) (cond (ltb m (s .count)) (reportRefused r hardMiss (suc m)) (record { answer = Taken.Done; run = runAfter s r o }))) (T-true (impossible s (r .states) o) t) in
+      (ap (λ a. saidTaken (a .answer)) e, ap (λ a. a .run) e)
 
   -- what is answered to a report that names an outcome: a move to its state, or 19 at the lowest task that misses
   pub record Taken-to (o : Outcome) (n : arena.Next) (a : Reported) : Type 0 where
-    pub answer : a .answer ≡ Taken.Done
+    pub answer : saidTaken (a .answer) ≡ answered []
     pub run : a .run ≡ runAfter s r o
     pub next : n ≡ go (indexOf s (a .run .states))
 
   pub record Missed-at (o : Outcome) (n : arena.Next) (a : Reported) : Type 0 where
     pub task : ℕ
-    pub answer : a ≡ reportRefused r hardMiss (suc task)
+    pub answer : saidTaken (a .answer) ≡ refusing 0 (record { number = hardMiss; place = suc task })
+    pub run : a .run ≡ r
     pub within : task < s .count
     pub misses : isSuch true (tickAt s (r .states) o task) ≡ true
     pub lowest : (j : ℕ) → j < task → isSuch true (tickAt s (r .states) o j) ≡ false
@@ -246,16 +249,18 @@ module _ (s : Set) (q : Passed s) (r : Run) (fit : T (fits s r)) (c : ℕ) (e : 
       let named = report-right finished arrivals ∙ ap (λ b. cond b (reportRefused r impossibleOutcome 0) (cond (ltb m (s .count)) (reportRefused r hardMiss (suc m)) (record { answer = Taken.Done; run = runAfter s r o }))) z in (
         named-in s xs o (indexOf s xs) (s .count) (state-index s q xs (λ j h. w .tasks j h .range)) (possible-none s xs o t),
         ⊎-elim
-            (λ l. let h = T-true _ (first-hit (λ k. isSuch true (tickAt s xs o k)) (s .count) 0 (omega arith)) in inr (record {
+            (λ l. let h = T-true _ (first-hit (λ k. isSuch true (tickAt s xs o k)) (s .count) 0 (omega arith)) in
+            let a = named ∙ ap (λ b. cond b (reportRefused r hardMiss (suc m)) (record { answer = Taken.Done; run = runAfter s r o })) (lt-ltb m (s .count) l) in inr (record {
               task = m;
-              answer = named ∙ ap (λ b. cond b (reportRefused r hardMiss (suc m)) (record { answer = Taken.Done; run = runAfter s r o })) (lt-ltb m (s .count) l);
+              answer = ap (λ a. saidTaken (a .answer)) a;
+              run = ap (λ a. a .run) a;
               within = l;
               misses = h;
               lowest = λ j b. T-false _ (first-least (λ k. isSuch true (tickAt s xs o k)) (s .count) 0 j (omega arith) b);
               next = next-miss s xs o m (s .count) l h;
             }))
             (λ l. let a = named ∙ ap (λ b. cond b (reportRefused r hardMiss (suc m)) (record { answer = Taken.Done; run = runAfter s r o })) (le-ltb m (s .count) l) in inl (record {
-              answer = ap (λ a. a .answer) a;
+              answer = ap (λ a. saidTaken (a .answer)) a;
               run = ap (λ a. a .run) a;
               next = next-go s xs o (runAfter s r o .states) (s .count) (state-then s q r w o) (possible-none s xs o t) (none-such s xs o true l) ∙ ap (λ (a : Reported). go (indexOf s (a .run .states))) (sym a);
             }))
