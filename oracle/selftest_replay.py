@@ -3,6 +3,7 @@
 import os
 
 import batch
+import make_lines
 import make
 import replay
 import runs
@@ -145,8 +146,13 @@ def stored_batch():
     same("number of answers", len(got), len(expected))
     for place, (a, b) in enumerate(zip(got, expected), start=1):
         same("stored line %d" % place, a, b)
+    lines = list(make_lines.all_lines())
+    answers = expected[batch.COUNT:batch.COUNT + len(lines)]
+    same("what is meant to be mangled is, and nothing else",
+         [line for line, a in zip(lines, answers) if a.startswith("?")],
+         list(make_lines.mangled()) + ["text 4142", "text 41"])
     same("no case is mangled",
-         [a for a in expected[batch.COUNT:] if a.startswith("?")], [])
+         [a for a in expected[batch.COUNT + len(lines):] if a.startswith("?")], [])
 
 
 PARTS = [mangled_lines, document_example, batches, stored_batch]
