@@ -7,6 +7,7 @@ use native.Mathlib.Nat.{eq-or-lt-of-le}
 use native.Mathlib.Omega.{arith}
 use lib.Dec.{T, eqb, ltb, nltb→le}
 use borrow.Author.Tests.{lt-ltb, le-ltb, le-leb, ne-eqb}
+use Rattle.arena.specs.Tests.{_∈_}
 use Rattle.arena.proofs.Tests.{nor, and-left, and-right, not-not, lt-or-le, T-true}
 use Rattle.tasks.specs.declared.refusals.Refusal.{Refusal}
 use Rattle.tasks.specs.declared.sets.Task.{Task}
@@ -14,9 +15,10 @@ use Rattle.tasks.specs.declared.sets.Set.{Set}
 use Rattle.tasks.specs.declared.sets.Tested.{Tested}
 use Rattle.tasks.specs.declared.sets.Tested.the-variants.{States, Refused}
 use Rattle.tasks.specs.Lists.{lengthOf, shortestOf}
-use Rattle.tasks.specs.Refusals.{badRecord, tooManyStates}
+use Rattle.tasks.specs.Refusals.{badRecord, tooManyStates, setNumbers}
 use Rattle.tasks.specs.Sets.{goodName, within, cmax, unfit, blank, faultOf, taskAt, faultAt, statesOf, refuseOr, lowestFault, testStates, testSet, Passed}
 use Rattle.tasks.proofs.SetLaws.{within-both, states-by}
+use Rattle.tasks.proofs.Numbers.{has, listed-in, between}
 
 -- a task's record: its kind, its deadline, its lists, and the rules between them
 pub record ValidTask (τ : Task) : Type 0 where
@@ -144,40 +146,50 @@ passes s v =
     beyond : (j : ℕ) → j < 0 + 7 → s .count ≤ j → faultAt s j ≡ 0
     beyond j l h = fault-by s j false (le-ltb j (s .count) h) ∙ ap (λ b. cond b 0 badRecord) (T-true (blank (taskAt s j)) (v .blanks j h (omega arith)))
 
--- a refusal of a set has a number of 3 to 6
+-- a number that is not 0 is one of the set's own
 abbrev Number : ℕ → Type 0
-Number n = 0 < n → (3 ≤ n) × (n ≤ 6)
+Number n = 0 < n → n ∈ setNumbers
 
 none : Number 0
-none h = let z : ⊥ = omega arith in absurd z
+none h = absurd (omega arith)
+
+one-of : (n : ℕ) → T (has n setNumbers) → Number n
+one-of n t _ = listed-in n setNumbers t
 
 cond-number : (b : Bool) (x y : ℕ) → Number x → Number y → Number (cond b x y)
 cond-number true x y p q = p
 cond-number false x y p q = q
-
-refuse-number : (n p : ℕ) (t : Tested) → Number n → ((f : Refusal) → t ≡ Refused f → (3 ≤ f .number) × (f .number ≤ 6))
-    → (f : Refusal) → refuseOr n p t ≡ Refused f → (3 ≤ f .number) × (f .number ≤ 6)
-refuse-number zero p t h r f e = r f e
-refuse-number (suc n) p t h r f e =
-    let q : record { number = suc n; place = p } ≡ f = cc in
-    subst (λ (g : Refusal). (3 ≤ g .number) × (g .number ≤ 6)) q (h (omega arith))
 
 fault-number : (s : Set) (i : ℕ) → Number (faultAt s i)
 unfolding faultAt faultOf
 fault-number s i =
     let τ = taskAt s i in
     cond-number (ltb i (s .count)) _ _
-    (cond-number (unfit τ) 3 _ (λ _. (omega arith, omega arith)) (cond-number (ltb (τ .deadline) (cmax τ)) 4 _ (λ _. (omega arith, omega arith)) (cond-number (ltb (shortestOf (τ .gaps)) (τ .deadline)) 5 0 (λ _. (omega arith, omega arith)) none)))
-    (cond-number (blank τ) 0 3 none (λ _. (omega arith, omega arith)))
+    (cond-number (unfit τ) 3 _ (one-of 3 tt) (cond-number (ltb (τ .deadline) (cmax τ)) 4 _ (one-of 4 tt) (cond-number (ltb (shortestOf (τ .gaps)) (τ .deadline)) 5 0 (one-of 5 tt) none)))
+    (cond-number (blank τ) 0 3 none (one-of 3 tt))
 
-pub refused-number : (s : Set) (f : Refusal) → testSet s ≡ Refused f → (3 ≤ f .number) × (f .number ≤ 6)
+-- and so is a refusal's
+abbrev Numbered : Tested → Type 0
+Numbered (States n) = Unit {0}
+Numbered (Refused f) = f .number ∈ setNumbers
+
+refuse-numbered : (n p : ℕ) (t : Tested) → Number n → Numbered t → Numbered (refuseOr n p t)
+refuse-numbered zero p t h r = r
+refuse-numbered (suc n) p t h r = h (omega arith)
+
+test-numbered : (s : Set) → Numbered (testSet s)
 unfolding testSet testStates lowestFault
-refused-number s =
-    refuse-number _ 0 _ (cond-number (goodName (s .name) && within 1 7 (s .count)) 0 3 none (λ _. (omega arith, omega arith))) (faults 7 0)
+test-numbered s =
+    refuse-numbered _ 0 _ (cond-number (goodName (s .name) && within 1 7 (s .count)) 0 3 none (one-of 3 tt)) (faults 7 0)
   where
-    states : (f : Refusal) → testStates s ≡ Refused f → (3 ≤ f .number) × (f .number ≤ 6)
-    states = refuse-number _ 0 (States (statesOf s)) (cond-number (ltb 60000 (statesOf s)) 6 0 (λ _. (omega arith, omega arith)) none) (λ f e. let z : _≡_ {A = ℕ} 0 1 = cc in absurd (omega arith))
+    faults : (k i : ℕ) → Numbered (lowestFault s k i (testStates s))
+    faults zero i = refuse-numbered _ 0 (States (statesOf s)) (cond-number (ltb 60000 (statesOf s)) 6 0 (one-of 6 tt) none) tt
+    faults (suc k) i = refuse-numbered (faultAt s i) (suc i) _ (fault-number s i) (faults k (suc i))
 
-    faults : (k i : ℕ) → (f : Refusal) → lowestFault s k i (testStates s) ≡ Refused f → (3 ≤ f .number) × (f .number ≤ 6)
-    faults zero i = states
-    faults (suc k) i = refuse-number (faultAt s i) (suc i) _ (fault-number s i) (faults k (suc i))
+-- a refusal of a set has one of the set's own numbers
+pub refused-listed : (s : Set) (f : Refusal) → testSet s ≡ Refused f → f .number ∈ setNumbers
+refused-listed s f e = subst Numbered e (test-numbered s)
+
+-- which are 3 to 6
+pub refused-number : (s : Set) (f : Refusal) → testSet s ≡ Refused f → (3 ≤ f .number) × (f .number ≤ 6)
+refused-number s f e = between 3 6 setNumbers tt (f .number) (refused-listed s f e)
