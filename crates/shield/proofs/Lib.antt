@@ -5,4 +5,5 @@ pub mod FineLaws
 pub mod TestLaws
 pub mod BuildLaws
 pub mod Done
+pub mod Numbers
 pub mod Tested

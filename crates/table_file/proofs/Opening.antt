@@ -15,17 +15,19 @@ use Rattle.tasks.specs.declared.refusals.Refusal.{Refusal}
 use Rattle.tasks.specs.declared.sets.Set.{Set}
 use Rattle.tasks.specs.declared.sets.Tested.{Tested}
 use Rattle.tasks.specs.declared.sets.Tested.the-variants as Tested
+use Rattle.tasks.specs.Refusals.{openNumbers}
 use Rattle.tasks.specs.Sets.{testSet, Passed}
-use Rattle.tasks.proofs.Valid.{passed, refused-number}
+use Rattle.tasks.proofs.Numbers.{between}
+use Rattle.tasks.proofs.Valid.{passed}
 use Rattle.shield.specs.declared.tester.Verdict.{Verdict}
 use Rattle.shield.specs.declared.tester.Verdict.the-variants.{Passes}
 use Rattle.shield.specs.declared.tester.Verdict.the-variants as Verdict
 use Rattle.shield.specs.Test.{testOf}
-use Rattle.shield.proofs.Tested.{refused-said}
 use Rattle.table_file.specs.declared.opener.Opened.{Opened}
 use Rattle.table_file.specs.declared.opener.Opened.the-variants.{Opens, Refused}
 use Rattle.table_file.specs.Files.{header, headerLength, fileLength}
 use Rattle.table_file.specs.Open.{differs, lowest, other, present, openVerdict, openPassed, openTested, openOf, saidOpened}
+use Rattle.table_file.proofs.Numbers.{open-number}
 use Rattle.table_file.proofs.OpenLaws.{present-header, open-test, rest}
 
 -- the set passes, the header is the set's, the length is right, and the table part passes the test
@@ -115,21 +117,8 @@ module _ (s : Set) (file : List ℕ) where
 
   -- an answer that refuses nothing is `Opens`
   pub said-opens : saidOpened (openOf s file) .number ≡ 0 → openOf s file ≡ Opens
-  unfolding openPassed
-  said-opens = by (testSet s) refl
+  said-opens h = by (openOf s file) refl
     where
-      on : (b : Bool) (f : Refusal) (v : Opened) → 1 ≤ f .number → (saidOpened v .number ≡ 0 → v ≡ Opens) → saidOpened (cond b (Refused f) v) .number ≡ 0 → cond b (Refused f) v ≡ Opens
-      on true f v h g q = absurd (omega arith)
-      on false f v h g q = g q
-
-      part : (v : Verdict) → testOf s (drop (headerLength s) file) ≡ v → saidOpened (openVerdict v) .number ≡ 0 → openVerdict v ≡ Opens
-      part Passes q h = refl
-      part (Verdict.Refused f) q h = absurd (omega (arith, refused-said s (drop (headerLength s) file) f q))
-
-      by : (t : Tested) → testSet s ≡ t → saidOpened (openTested s file t) .number ≡ 0 → openTested s file t ≡ Opens
-      by (Tested.Refused f) q h = absurd (omega (arith, refused-number s f q .0))
-      by (Tested.States n) q h =
-          on (ltb (length file) 5 || other s file 0 3) _ _ (omega arith)
-          (on (other s file 3 5) _ _ (omega arith)
-          (on (other s file 5 (present s file)) _ _ (omega arith)
-          (on (not (eqb (length file) (fileLength s))) _ _ (omega arith) (part (testOf s (drop (headerLength s) file)) refl)))) h
+      by : (v : Opened) → openOf s file ≡ v → openOf s file ≡ Opens
+      by Opens q = q
+      by (Refused f) q = absurd (omega (arith, between 1 21 openNumbers tt (f .number) (open-number s file f q) .0, ap (λ v. saidOpened v .number) q))
