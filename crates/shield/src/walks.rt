@@ -79,7 +79,7 @@ fn is_fine(s: Set, d: &[u32; 7], table: &[u8], choice: usize) -> bool
 }
 
 // What is left of the entry of state i.
-pub fn next_entry(s: Set, table: &[u8], i: usize) -> u8
+pub(crate) fn next_entry(s: Set, table: &[u8], i: usize) -> u8
     requires { ⌜ Passed s × (i < statesOf s) × (statesOf s ≤ length (now table)) ⌝ }
     ensures { λ r. ⌜ r ≡ nextEntry s (now (table .entry)) i ⌝ }
 {

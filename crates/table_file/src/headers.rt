@@ -9,7 +9,7 @@ ghost use Rattle.tasks.specs.Sets.{statesOf, Passed};
 ghost use Rattle.table_file.specs.Files.{mark, version, taskBytes, header, headerLength};
 
 // How long the header is: 26 bytes, and six a task.
-pub fn header_length(s: Set) -> usize
+pub(crate) fn header_length(s: Set) -> usize
     ensures { λ r. ⌜ r ≡ headerLength s ⌝ }
 {
     26 + 6 * (s.count as usize)
@@ -50,7 +50,7 @@ fn fixed_byte(i: usize) -> u8
 }
 
 // Byte i of the header of a set with n states.
-pub fn header_byte(s: Set, n: u32, i: usize) -> u8
+pub(crate) fn header_byte(s: Set, n: u32, i: usize) -> u8
     requires { ⌜ Passed s × (n ≡ statesOf s) × (i < headerLength s) ⌝ }
     ensures { λ r. ⌜ r ≡ getD (header s) i 0 ⌝ }
 {
