@@ -147,11 +147,7 @@ def large_cases():
     show_long(", ".join(tasks), case(*tasks), table, work)
 
 
-figure_cases()
-refused_cases()
-round_cases()
-buffer_cases()
-set_cases()
-pair_tests()
-outcome_tests()
-large_cases()
+if __name__ == "__main__":
+    for group in (figure_cases, refused_cases, round_cases, buffer_cases, set_cases, pair_tests, outcome_tests,
+                  large_cases):
+        group()
