@@ -7,7 +7,8 @@ use Rattle.tasks.specs.declared.sets.Task.{Task}
 use Rattle.tasks.specs.declared.sets.Set.{Set}
 use Rattle.tasks.specs.Lists.{valuesOf}
 use Rattle.tasks.specs.Refusals.{Said}
-use Rattle.tasks.specs.Sets.{noTask, testSet, saidTested}
+use Rattle.tasks.specs.Sets.{testSet, saidTested}
+use Rattle.tasks.specs.Examples.{hard, setOf, PAIR, EXAMPLE}
 use Rattle.game.specs.declared.states.Job.the-variants.{Empty, InHand}
 use Rattle.game.specs.declared.states.TaskState.{TaskState}
 use Rattle.game.specs.States.{indexOf}
@@ -22,32 +23,16 @@ use Rattle.guard.specs.declared.runs.Run.{Run}
 use Rattle.guard.specs.Runs.{startOf}
 use Rattle.guard.specs.Calls.{Call, ask, report, saidBy, runBy, reached}
 
--- tasks with their lists kept as bits; a set of one task or two, its name the letters of PAIR
-abbrev hard : ℕ → ℕ → ℕ → Task
-hard d c a = record { kind = 1; deadline = d; runs = c; gaps = a }
-
-abbrev soft : ℕ → ℕ → ℕ → Task
-soft d c a = record { kind = 0; deadline = d; runs = c; gaps = a }
-
-abbrev named : ℕ → List Task → Set
-named n ts = record { name = 80 ∷ 65 ∷ 73 ∷ 82 ∷ replicate 12 0; count = n; tasks = ts }
-
+-- a set of one task or two, named A
 abbrev one : Task → Set
-one a = named 1 (a ∷ replicate 6 noTask)
+one a = setOf (65 ∷ []) (a ∷ [])
 
 abbrev two : Task → Task → Set
-two a b = named 2 (a ∷ b ∷ replicate 5 noTask)
-
--- PAIR, and source 000's example 1
-abbrev PAIR : Set
-PAIR = two (hard 2 1 2) (hard 2 1 2)
-
-abbrev example : Set
-example = two (hard 2 1 4) (soft 2 3 4)
+two a b = setOf (65 ∷ []) (a ∷ b ∷ [])
 
 -- `hard 1 1 1` under a name of fifteen times A and then the character c
 abbrev long : ℕ → Set
-long c = record { name = replicate 15 65 ++ (c ∷ []); count = 1; tasks = hard 1 1 1 ∷ replicate 6 noTask }
+long c = setOf (replicate 15 65 ++ (c ∷ [])) (hard 1 1 1 ∷ [])
 
 -- what can be asked
 pub data Question : Type 0 where
@@ -102,15 +87,15 @@ figures =
     ∷ figure (table (one (hard 1 1 1))) (2 ∷ 1 ∷ [])
     ∷ figure (build (one (hard 1 1 1))) (0 ∷ 0 ∷ 2 ∷ 0 ∷ 2 ∷ [])
     -- P4: source 000, example 1
-    ∷ figure (states example) (0 ∷ 0 ∷ 54 ∷ [])
-    ∷ figure (entries example (0 ∷ 21 ∷ 26 ∷ 32 ∷ 4 ∷ [])) (7 ∷ 5 ∷ 2 ∷ 2 ∷ 0 ∷ [])
-    ∷ figure (build example) (0 ∷ 0 ∷ 45 ∷ 1 ∷ 7 ∷ [])
+    ∷ figure (states EXAMPLE) (0 ∷ 0 ∷ 54 ∷ [])
+    ∷ figure (entries EXAMPLE (0 ∷ 21 ∷ 26 ∷ 32 ∷ 4 ∷ [])) (7 ∷ 5 ∷ 2 ∷ 2 ∷ 0 ∷ [])
+    ∷ figure (build EXAMPLE) (0 ∷ 0 ∷ 45 ∷ 1 ∷ 7 ∷ [])
     -- P5: two of hard 3 2 4
     ∷ figure (build (two (hard 3 2 8) (hard 3 2 8))) (8 ∷ 3 ∷ 0 ∷ 0 ∷ 0 ∷ [])
     -- P6: hard 2 1,2 2 and hard 2 1 2
     ∷ figure (build (two (hard 2 3 2) (hard 2 1 2))) (8 ∷ 2 ∷ 0 ∷ 0 ∷ 0 ∷ [])
     -- P7: hard age 1 without job, soft age 1 fresh
-    ∷ figure (index example (record { age = 1; job = Empty } ∷ record { age = 1; job = InHand 0 } ∷ [])) (21 ∷ [])
+    ∷ figure (index EXAMPLE (record { age = 1; job = Empty } ∷ record { age = 1; job = InHand 0 } ∷ [])) (21 ∷ [])
     -- P8: the list 3,5,9
     ∷ figure (values 276) (3 ∷ 5 ∷ 9 ∷ [])
     -- P9: with 4,294,967,295 as the last reading, 1 is refused and 0 taken

@@ -4,11 +4,11 @@ use mathlib.Core.Path.{_≡_, refl, sym, ap, ap₂, _∙_}
 use mathlib.Core.List.{List, [], _∷_}
 use Prim.Native.Nat.{ℕ}
 use native.Mathlib.Omega.{arith}
-use lib.ListN.{length, getD, replicate}
-use Rattle.tasks.specs.declared.sets.Task.{Task}
+use lib.ListN.{length, getD}
 use Rattle.tasks.specs.declared.sets.Set.{Set}
 use Rattle.tasks.specs.Lists.{values, shortestOf, longestOf, lengthOf, listed}
-use Rattle.tasks.specs.Sets.{noTask, nameByte, characters, zeros, goodName, blank, unfit, faultOf, faultAt, localsOf, statesTo, lowestFault, testStates, testSet}
+use Rattle.tasks.specs.Examples.{hard, setOf}
+use Rattle.tasks.specs.Sets.{nameByte, characters, zeros, goodName, blank, unfit, faultOf, faultAt, localsOf, statesTo, lowestFault, testStates, testSet}
 use Rattle.game.specs.States.{localOf, stateOf, inRange, localAt}
 use Rattle.game.specs.Ticks.{runnable, can, tickOf}
 use Rattle.game.specs.Game.{outcomesTo, arenaOf}
@@ -16,19 +16,13 @@ use Rattle.shield.specs.declared.builder.Built.{Built}
 use Rattle.shield.specs.Entries.{names, marks}
 use Rattle.shield.specs.Build.{buildOf, Builds, saidBuilt}
 
-abbrev pub two : Task → Task → Set
-two a b = record { name = 65 ∷ replicate 15 0; count = 2; tasks = a ∷ b ∷ replicate 5 noTask }
-
-abbrev pub hard : ℕ → ℕ → ℕ → Task
-hard d c a = record { kind = 1; deadline = d; runs = c; gaps = a }
-
 -- hard 3 1,2 3 and hard 1 1 1,2
 abbrev pub thirds : Set
-thirds = two (hard 3 3 4) (hard 1 1 3)
+thirds = setOf (65 ∷ []) (hard 3 3 4 ∷ hard 1 1 3 ∷ [])
 
 -- hard 4 2 4 and hard 2 1 2
 abbrev pub quarters : Set
-quarters = two (hard 4 2 8) (hard 2 1 2)
+quarters = setOf (65 ∷ []) (hard 4 2 8 ∷ hard 2 1 2 ∷ [])
 
 falls-in-3 : saidBuilt (buildOf thirds 36 36) .place ≡ 3
 unfolding values shortestOf longestOf lengthOf listed nameByte characters zeros goodName blank unfit faultOf faultAt localsOf statesTo lowestFault testStates testSet localOf stateOf inRange localAt runnable can tickOf outcomesTo arenaOf names marks

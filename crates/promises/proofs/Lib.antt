@@ -1,4 +1,5 @@
 pub mod Sets
 pub mod Tables
+pub mod Shielded
 pub mod Shield
 pub mod Impostors

@@ -4,7 +4,7 @@ use mathlib.Core.Bool.{not, _||_}
 use mathlib.Core.List.{List, Memᴰ·append-left}
 use Prim.Native.Nat.{ℕ}
 use native.Mathlib.Omega.{arith}
-use lib.Dec.{T, eqb, eqb→eq, ltb}
+use lib.Dec.{eqb, eqb→eq, ltb}
 use lib.ListN.{length, drop, length-drop}
 use Rattle.arena.specs.Tests.{_∈_}
 use Rattle.arena.proofs.Tests.{not-not, by-cond}

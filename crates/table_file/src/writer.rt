@@ -9,11 +9,10 @@ use tasks::sets::Set;
 use tasks::sets::Tested;
 ghost use mathlib.Core.Path.{_≡_};
 ghost use mathlib.Core.List.{_++_};
-ghost use Prim.Native.Nat.{_+_, _≤_};
+ghost use Prim.Native.Nat.{_≤_};
 ghost use lib.ListN.{length, drop};
-ghost use lib.Seq.{paste};
 ghost use Rattle.tasks.specs.Sets.{statesOf, Passed};
-ghost use Rattle.table_file.specs.Files.{header, headerLength};
+ghost use Rattle.table_file.specs.Files.{header, headerLength, fileOf, fileLength};
 ghost use Rattle.table_file.specs.Write.{tooShort, Writes};
 
 // What the writer answers: the file's length, or the refusal.
@@ -35,16 +34,15 @@ fn put_header(s: Set, n: u32, file: &mut [u8])
     }
 }
 
-// The first n entries of the table go to the file from place `at` on.
-fn put_entries(table: &[u8], n: usize, file: &mut [u8], at: usize)
-    requires { ⌜ (n ≤ length (now table)) × (at + n ≤ length (now file)) ⌝ }
-    ensures { λ _. ⌜ now (file .exit) ≡ paste (now (file .entry)) at (now (table .entry)) n ⌝ }
+// The file of a set with n states: the header, and behind it the table's first n entries.
+fn put_file(s: Set, n: u32, table: &[u8], file: &mut [u8])
+    requires { ⌜ Passed s × (n ≡ statesOf s) × (n ≤ length (now table)) × (fileLength s ≤ length (now file)) ⌝ }
+    ensures { λ _. ⌜ now (file .exit) ≡ fileOf s (now (table .entry)) ++ drop (fileLength s) (now (file .entry)) ⌝ }
 {
-    let mut i = 0;
-    while i < n {
-        file[at + i] = table[i];
-        i += 1;
-    }
+    put_header(s, n, file);
+    let head = headers::header_length(s);
+    let size = n as usize;
+    bytes::copy(&table[..size], &mut file[head..]);
 }
 
 // A buffer shorter than n bytes.
@@ -66,18 +64,17 @@ fn write_passed(s: Set, table: &[u8], file: &mut [u8], n: u32) -> Written
     if table.len() < size {
         return short(n);
     }
-    let head = headers::header_length(s);
-    let length = head + size;
+    let length = headers::header_length(s) + size;
+    let answer = length as u32;
     if file.len() < length {
-        return short(length as u32);
+        return short(answer);
     }
     let verdict = tester::test(s, table);
     match verdict {
         Verdict::Refused(f) => Written::Refused(f),
         Verdict::Passes => {
-            put_header(s, n, file);
-            put_entries(table, size, file, head);
-            Written::Length(length as u32)
+            put_file(s, n, table, file);
+            Written::Length(answer)
         }
     }
 }

@@ -123,6 +123,9 @@ valid s m e =
 pub passed : (s : Set) (m : ℕ) → testSet s ≡ States m → Passed s
 passed s m e = e ∙ ap States (valid s m e .1)
 
+pub passed-states : (s : Set) (m : ℕ) → testSet s ≡ States m → Passed s × (m ≡ statesOf s)
+passed-states s m e = (passed s m e, valid s m e .1)
+
 pub passed-valid : (s : Set) → Passed s → Valid s
 passed-valid s e = valid s (statesOf s) e .0
 

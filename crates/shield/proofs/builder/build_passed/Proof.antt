@@ -9,17 +9,11 @@ use borrow.Author.Needs.{needs}
 use Rattle.shield.proofs.builder.build_passed.Statement.{statement}
 use Rattle.shield.proofs.builder.build_passed.Tie as tie
 
-short-requires : tie.Need-short-requires
-short-requires c κs = search needs
-
 returns : tie.Need-returns
 returns c = let b = c .before .before .before .before in
     let q = c .short .ensures ∙ ap tooShort (b .pre .1) in
     subst (λ r. Builds (b .args .s) (b .args .table .now) (b .args .work .now) r (b .args .table .now) (b .args .work .now)) (sym q)
     (short-table (b .args .s) (b .pre .0) (b .args .table .now) (b .args .work .now) (omega (arith, c .before .if1 .taken, b .pre .1)))
-
-short-requires-2 : tie.Need-short-requires-2
-short-requires-2 c κs = search needs
 
 returns-2 : tie.Need-returns-2
 returns-2 c = let b = c .before .before .before .before .before in
@@ -27,40 +21,13 @@ returns-2 c = let b = c .before .before .before .before .before in
     subst (λ r. Builds (b .args .s) (b .args .table .now) (b .args .work .now) r (b .args .table .now) (b .args .work .now)) (sym q)
     (short-work (b .args .s) (b .pre .0) (b .args .table .now) (b .args .work .now) (omega (arith, c .before .before .if1 .left, b .pre .1)) (omega (arith, c .before .if2 .taken, b .pre .1)))
 
-run-rounds-requires : tie.Need-run-rounds-requires
-run-rounds-requires c κs = search needs
-
-fill-requires : tie.Need-fill-requires
-fill-requires c κs = search needs
-
-enum-known-settled : tie.Need-enum-known-settled
-enum-known-settled c = search needs
-
 slice-read-t21 : tie.Need-slice-read-t21
 slice-read-t21 c = let b = c .before .before .before .before .before .before .before .before .before .before .before .before .before .before .before .before .before .before .before in
     omega (arith, c .before .before .before .before .before .before .before .before .before .before .before .before .run-rounds .kept .1 .0, c .before .before .before .before .before .before .before .before .before .before .before .before .before .before .before .before .if1 .left, b .pre .1, states-pos (b .args .s) (passed-valid (b .args .s) (b .pre .0)) (b .args .s .count) (omega arith))
 
-enum-known-settled-2 : tie.Need-enum-known-settled-2
-enum-known-settled-2 c = search needs
-
-fill-requires-2 : tie.Need-fill-requires-2
-fill-requires-2 c κs = search needs
-
-same-length : tie.Need-same-length
-same-length c = search needs
-
-same-length-2 : tie.Need-same-length-2
-same-length-2 c = search needs
-
 returns-3 : tie.Need-returns-3
 returns-3 c = let b = c .before .before .before .before .before .before .before .before .before .before .before .before .before .before .before .before .before .before .before in
     built-safe (b .args .s) (b .pre .0) (b .args .table .now) (b .args .work .now) (b .args .n) (b .pre .1) (c .before .before .before .before .before .before .before .before .before .before .before .before .before .before .before .before .if1 .left) (c .before .before .before .before .before .before .before .before .before .before .before .before .before .before .before .if2 .left) (c .before .before .before .before .before .before .before .before .before .before .before .before .run-rounds .result) (c .before .before .before .before .before .before .before .before .before .before .before .before .run-rounds .last .1 .0) (c .before .before .before .before .before .before .before .before .before .before .before .before .run-rounds .last .1 .1 .0) (c .before .before .before .before .before .before .before .before .before .before .before .before .run-rounds .ensures) _ _ (c .before .before .before .before .before .before .fill .last .0) (c .before .before .settled .given .1) (c .before .before .before .before .before .before .fill .ensures)
-
-same-length-3 : tie.Need-same-length-3
-same-length-3 c = search needs
-
-same-length-4 : tie.Need-same-length-4
-same-length-4 c = search needs
 
 returns-4 : tie.Need-returns-4
 returns-4 c = let b = c .before .before .before .before .before .before .before .before .before .before .before .before .before .before .before .before .before .before .before .before .before .before in
@@ -69,20 +36,6 @@ returns-4 c = let b = c .before .before .before .before .before .before .before 
 pub build-passed-spec : {M : Type 1} → statement M
 build-passed-spec =
     tie.close
-    (tie.spec
-    short-requires
-    returns
-    short-requires-2
-    returns-2
-    run-rounds-requires
-    fill-requires
-    enum-known-settled
-    slice-read-t21
-    enum-known-settled-2
-    fill-requires-2
-    same-length
-    same-length-2
-    returns-3
-    same-length-3
-    same-length-4
-    returns-4)
+    (tie.spec (λ c κs. search needs) returns (λ c κs. search needs) returns-2 (λ c κs. search needs) (λ c κs. search needs)
+    (λ c. search needs) slice-read-t21 (λ c. search needs) (λ c κs. search needs) (λ c. search needs) (λ c. search needs)
+    returns-3 (λ c. search needs) (λ c. search needs) returns-4)

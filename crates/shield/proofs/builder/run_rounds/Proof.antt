@@ -109,9 +109,6 @@ ended d k e =
       new-work d ∙ ap₂ (λ k l. tableAfter (a .s) k ++ l) e (ap (λ m. drop m (a .work .now)) n),
     )
 
-fill-requires : tie.Need-fill-requires Inv-loop μ-loop
-fill-requires c κs = search needs
-
 cast-left : tie.Need-cast-left Inv-loop μ-loop
 cast-left c = omega (arith, passed-valid (c .before .before .before .before .before .before .args .s) (c .before .before .before .before .before .before .pre .0) .states, c .before .before .before .before .before .before .pre .1)
 
@@ -196,22 +193,5 @@ loop-again c = let d = c .before .before .before .before .before .before .before
 pub run-rounds-spec : {M : Type 1} → statement M
 run-rounds-spec =
     tie.close
-    (tie.spec
-    Inv-loop
-    μ-loop
-    fill-requires
-    cast-left
-    loop-holds
-    round-requires
-    slice-read-if1
-    add-t19
-    same-length
-    same-length-2
-    returns
-    count-live-requires
-    same-length-3
-    same-length-4
-    returns-2
-    add-rounds
-    loop-less
-    loop-again)
+    (tie.spec Inv-loop μ-loop (λ c κs. search needs) cast-left loop-holds round-requires slice-read-if1 add-t19 same-length
+    same-length-2 returns count-live-requires same-length-3 same-length-4 returns-2 add-rounds loop-less loop-again)

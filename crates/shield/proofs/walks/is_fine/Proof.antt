@@ -9,15 +9,9 @@ use borrow.Author.Needs.{needs}
 use Rattle.shield.proofs.walks.is_fine.Statement.{statement}
 use Rattle.shield.proofs.walks.is_fine.Tie as tie
 
-is-legal-requires : tie.Need-is-legal-requires
-is-legal-requires c κs = search needs
-
 returns : tie.Need-returns
 unfolding fineIn
 returns c = simp (sym (c .before .is-legal .ensures) ∙ not-true _ (c .if1 .taken))
-
-cast-walk-on : tie.Need-cast-walk-on
-cast-walk-on c = search needs
 
 walk-on-requires : tie.Need-walk-on-requires
 walk-on-requires c κs = let b = c .before .before .before .before in
@@ -30,4 +24,4 @@ returns-2 c = c .walk-on .ensures ∙ simp (sym (c .before .before .before .is-l
 
 pub is-fine-spec : {M : Type 1} → statement M
 is-fine-spec =
-    tie.close (tie.spec is-legal-requires returns cast-walk-on walk-on-requires returns-2)
+    tie.close (tie.spec (λ c κs. search needs) returns (λ c. search needs) walk-on-requires returns-2)

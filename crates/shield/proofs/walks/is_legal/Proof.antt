@@ -15,26 +15,11 @@ returns : tie.Need-returns
 unfolding legalIn
 returns c = sym (ap (legalIn (c .before .args .t1) (c .before .args .d .now)) (c .if1 .taken))
 
-cast-if2 : tie.Need-cast-if2
-cast-if2 c = search needs
-
 returns-2 : tie.Need-returns-2
 returns-2 c = sym (legal-none _ _ _ (c .if2 .taken))
 
-sub-t : tie.Need-sub-t
-sub-t c = search needs
-
-mul-t : tie.Need-mul-t
-mul-t c = search needs
-
 element-copy-out-t : tie.Need-element-copy-out-t
 element-copy-out-t c = omega (arith, passed-valid (c .before .before .args .t1) (c .before .before .pre .0) .count .1)
-
-sub-state-of : tie.Need-sub-state-of
-sub-state-of c = search needs
-
-mul-state-of : tie.Need-mul-state-of
-mul-state-of c = search needs
 
 element-copy-out-state-of : tie.Need-element-copy-out-state-of
 element-copy-out-state-of c = omega (arith, passed-valid (c .before .before .before .args .t1) (c .before .before .before .pre .0) .count .1)
@@ -43,9 +28,6 @@ state-of-requires : tie.Need-state-of-requires
 state-of-requires c κs = let q = c .before .before .before .if1 .left in
     c .before .before .before .before .pre .1 (c .before .before .before .before .args .choice - 1) (omega arith)
 
-is-runnable-requires : tie.Need-is-runnable-requires
-is-runnable-requires c κs = search needs
-
 returns-3 : tie.Need-returns-3
 returns-3 c = let a = c .before .before .before .before .before .before .args in
     c .is-runnable .ensures ∙ ap (runnable (taskAt (a .t1) (a .choice - 1))) (c .before .state-of .ensures) ∙ sym (legal-task (a .t1) (a .d .now) (a .choice) (c .before .before .before .before .before .if1 .left) (c .before .before .before .before .if2 .left))
@@ -53,16 +35,5 @@ returns-3 c = let a = c .before .before .before .before .before .before .args in
 pub is-legal-spec : {M : Type 1} → statement M
 is-legal-spec =
     tie.close
-    (tie.spec
-    returns
-    cast-if2
-    returns-2
-    sub-t
-    mul-t
-    element-copy-out-t
-    sub-state-of
-    mul-state-of
-    element-copy-out-state-of
-    state-of-requires
-    is-runnable-requires
-    returns-3)
+    (tie.spec returns (λ c. search needs) returns-2 (λ c. search needs) (λ c. search needs) element-copy-out-t
+    (λ c. search needs) (λ c. search needs) element-copy-out-state-of state-of-requires (λ c κs. search needs) returns-3)

@@ -26,14 +26,8 @@ Inv-loop s table i old d entry₀ choice₀ entry choice = (choice ≤ 8) × (en
 abbrev μ-loop : tie.MeasureT-loop
 μ-loop s table i old d entry₀ choice₀ entry choice = 8 - choice
 
-shared-slice-read-old : tie.Need-shared-slice-read-old Inv-loop μ-loop
-shared-slice-read-old c = search needs
-
 returns : tie.Need-returns Inv-loop μ-loop
 returns c = sym (next-none _ _ _ (c .if1 .taken))
-
-locals-at-requires : tie.Need-locals-at-requires Inv-loop μ-loop
-locals-at-requires c κs = search needs
 
 loop-holds : tie.Need-loop-holds Inv-loop μ-loop
 unfolding marks
@@ -43,17 +37,8 @@ still-fine-requires : tie.Need-still-fine-requires Inv-loop μ-loop
 still-fine-requires c κs = let b = c .before .before .before .before .before .before .before in
     ((b .pre .0, b .pre .2, c .before .loop-test .taken), λ j h. omega (arith, c .before .before .before .locals-at .ensures .0 j h, local-at-lt (b .args .s) (passed-valid (b .args .s) (b .pre .0)) (b .args .i) j h))
 
-only-requires : tie.Need-only-requires Inv-loop μ-loop
-only-requires c κs = search needs
-
 add-entry : tie.Need-add-entry Inv-loop μ-loop
 add-entry c = record { fits = omega (arith, c .before .before .before .before .before .loop .inv .1, c .only .ensures, marks-room (c .before .before .before .before .before .loop .choice) (still (c .before .before .before .before .before .before .before .before .before .before .args .s) (c .before .before .before .before .before .before .locals-at .result) (c .before .before .before .before .before .before .before .before .before .before .args .table .now) (c .before .before .before .before .before .before .before .before .before .before .args .i)) (c .before .before .before .before .loop-test .taken)) }
-
-add-choice : tie.Need-add-choice Inv-loop μ-loop
-add-choice c = search needs
-
-loop-less : tie.Need-loop-less Inv-loop μ-loop
-loop-less c = search needs
 
 loop-again : tie.Need-loop-again Inv-loop μ-loop
 loop-again c = let l = c .before .before .before .before .loop in
@@ -71,17 +56,5 @@ returns-2 c = let b = c .before .before .before .before .before .before in
 pub next-entry-spec : {M : Type 1} → statement M
 next-entry-spec =
     tie.close
-    (tie.spec
-    Inv-loop
-    μ-loop
-    shared-slice-read-old
-    returns
-    locals-at-requires
-    loop-holds
-    still-fine-requires
-    only-requires
-    add-entry
-    add-choice
-    loop-less
-    loop-again
-    returns-2)
+    (tie.spec Inv-loop μ-loop (λ c. search needs) returns (λ c κs. search needs) loop-holds still-fine-requires
+    (λ c κs. search needs) add-entry (λ c. search needs) (λ c. search needs) loop-again returns-2)

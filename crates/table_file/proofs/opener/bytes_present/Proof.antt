@@ -11,9 +11,6 @@ use borrow.Author.Needs.{needs}
 use Rattle.table_file.proofs.opener.bytes_present.Statement.{statement}
 use Rattle.table_file.proofs.opener.bytes_present.Tie as tie
 
-header-length-requires : tie.Need-header-length-requires
-header-length-requires c κs = search needs
-
 returns : tie.Need-returns
 unfolding present
 returns c = simp (lt-ltb _ _ (c .if1 .taken), sym (c .before .header-length .ensures))
@@ -26,4 +23,5 @@ returns-2 c = let a = c .before .before .before .args in
     e ∙ sym (ap (λ b. cond b (length (a .file .now)) (headerLength (a .s))) (le-ltb (length (a .file .now)) (headerLength (a .s)) h))
 
 pub bytes-present-spec : {M : Type 1} → statement M
-bytes-present-spec = tie.close (tie.spec header-length-requires returns returns-2)
+bytes-present-spec =
+    tie.close (tie.spec (λ c κs. search needs) returns returns-2)

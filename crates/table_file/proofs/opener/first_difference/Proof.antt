@@ -21,23 +21,11 @@ loop-holds : tie.Need-loop-holds Inv-loop μ-loop
 unfolding lowest
 loop-holds c = search needs
 
-shared-slice-read-if1 : tie.Need-shared-slice-read-if1 Inv-loop μ-loop
-shared-slice-read-if1 c = search needs
-
-header-byte-requires : tie.Need-header-byte-requires Inv-loop μ-loop
-header-byte-requires c κs = search needs
-
 returns : tie.Need-returns Inv-loop μ-loop
 returns c = let a = c .before .before .before .before .before .before .args in
     let l = c .before .before .before .before .loop in
     let e = c .before .header-byte .ensures in
     sym (l .inv .2 ∙ first-here (differs (a .s) (a .file .now)) (a .hi) (l .i) (c .before .before .before .loop-test .taken) (ap not (ne-eqb _ _ (λ q. c .if1 .taken (q ∙ sym e)))))
-
-add-i : tie.Need-add-i Inv-loop μ-loop
-add-i c = search needs
-
-loop-less : tie.Need-loop-less Inv-loop μ-loop
-loop-less c = search needs
 
 loop-again : tie.Need-loop-again Inv-loop μ-loop
 loop-again c = let a = c .before .before .before .before .before .before .args in
@@ -52,14 +40,5 @@ returns-2 c = let a = c .before .before .before .args in
 pub first-difference-spec : {M : Type 1} → statement M
 first-difference-spec =
     tie.close
-    (tie.spec
-    Inv-loop
-    μ-loop
-    loop-holds
-    shared-slice-read-if1
-    header-byte-requires
-    returns
-    add-i
-    loop-less
-    loop-again
-    returns-2)
+    (tie.spec Inv-loop μ-loop loop-holds (λ c. search needs) (λ c κs. search needs) returns (λ c. search needs)
+    (λ c. search needs) loop-again returns-2)

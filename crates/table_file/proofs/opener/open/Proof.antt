@@ -9,21 +9,6 @@ use borrow.Author.Needs.{needs}
 use Rattle.table_file.proofs.opener.open.Statement.{statement}
 use Rattle.table_file.proofs.opener.open.Tie as tie
 
-verdict-requires : tie.Need-verdict-requires
-verdict-requires c κs = search needs
-
-enum-known-opened : tie.Need-enum-known-opened
-enum-known-opened c = search needs
-
-slice-aggregate-result : tie.Need-slice-aggregate-result
-slice-aggregate-result c = search needs
-
-enum-told : tie.Need-enum-told
-enum-told c = search needs
-
-header-length-requires : tie.Need-header-length-requires
-header-length-requires c κs = search needs
-
 sub-result : tie.Need-sub-result
 sub-result c = let a = c .before .before .before .before .before .args in
     let o = opening (a .s) (a .file .now) (sym (c .before .before .before .verdict .ensures) ∙ c .before .enum-told .given .1) in
@@ -33,9 +18,6 @@ part-result-start : tie.Need-part-result-start
 part-result-start c = let a = c .before .before .before .before .before .args in
     let o = opening (a .s) (a .file .now) (sym (c .before .before .before .verdict .ensures) ∙ c .before .enum-told .given .1) in
     omega (arith, o .long, c .header-length .ensures)
-
-part-result-end : tie.Need-part-result-end
-part-result-end c = search needs
 
 returns : tie.Need-returns
 returns c = let a = c .before .before .before .before .before .before .args in
@@ -48,14 +30,5 @@ returns-2 c = let a = c .before .before .before .before .before .before .args in
 pub open-spec : {M : Type 1} → statement M
 open-spec =
     tie.close
-    (tie.spec
-    verdict-requires
-    enum-known-opened
-    slice-aggregate-result
-    enum-told
-    header-length-requires
-    sub-result
-    part-result-start
-    part-result-end
-    returns
-    returns-2)
+    (tie.spec (λ c κs. search needs) (λ c. search needs) (λ c. search needs) (λ c. search needs) (λ c κs. search needs)
+    sub-result part-result-start (λ c. search needs) returns returns-2)

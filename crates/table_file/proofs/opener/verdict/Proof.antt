@@ -1,24 +1,13 @@
 -- The set's own test first.
 use mathlib.Core.Path.{sym, ap, _∙_}
-use Rattle.tasks.proofs.Valid.{valid, passed}
+use Rattle.tasks.proofs.Valid.{passed-states}
 use Rattle.table_file.specs.Open.{openTested}
 use borrow.Author.Needs.{needs}
 use Rattle.table_file.proofs.opener.verdict.Statement.{statement}
 use Rattle.table_file.proofs.opener.verdict.Tie as tie
 
-test-requires : tie.Need-test-requires
-test-requires c κs = search needs
-
-enum-known-tested : tie.Need-enum-known-tested
-enum-known-tested c = search needs
-
-enum-known-tested-2 : tie.Need-enum-known-tested-2
-enum-known-tested-2 c = search needs
-
 verdict-passed-requires : tie.Need-verdict-passed-requires
-verdict-passed-requires c κs = let s = c .before .before .before .before .before .args .s in
-    let e = sym (c .before .before .before .test .ensures) ∙ c .before .tested2 .given .1 in
-    (passed s _ e, valid s _ e .1)
+verdict-passed-requires c κs = passed-states _ _ (sym (c .before .before .before .test .ensures) ∙ c .before .tested2 .given .1)
 
 returns : tie.Need-returns
 returns c = let a = c .before .before .before .before .before .args in
@@ -31,10 +20,4 @@ returns-2 c = let a = c .before .before .before .before .before .before .args in
 pub verdict-spec : {M : Type 1} → statement M
 verdict-spec =
     tie.close
-    (tie.spec
-    test-requires
-    enum-known-tested
-    enum-known-tested-2
-    verdict-passed-requires
-    returns
-    returns-2)
+    (tie.spec (λ c κs. search needs) (λ c. search needs) (λ c. search needs) verdict-passed-requires returns returns-2)

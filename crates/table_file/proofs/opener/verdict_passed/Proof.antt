@@ -8,36 +8,18 @@ use borrow.Author.Needs.{needs}
 use Rattle.table_file.proofs.opener.verdict_passed.Statement.{statement}
 use Rattle.table_file.proofs.opener.verdict_passed.Tie as tie
 
-refused-requires : tie.Need-refused-requires
-refused-requires c κs = search needs
-
 returns : tie.Need-returns
 returns c = c .refused .ensures ∙ sym (open-short (c .before .before .before .args .s) (c .before .before .before .args .file .now) (c .before .if1 .taken))
-
-first-difference-requires : tie.Need-first-difference-requires
-first-difference-requires c κs = search needs
-
-refused-requires-2 : tie.Need-refused-requires-2
-refused-requires-2 c κs = search needs
 
 returns-2 : tie.Need-returns-2
 returns-2 c = let s = c .before .before .before .before .before .args .s in
     let f = c .before .before .before .before .before .args .file .now in
     c .refused2 .ensures ∙ sym (open-mark s f (c .before .before .before .if1 .left) (omega (arith, c .before .before .first-difference .ensures, c .before .if2 .taken)))
 
-first-difference-requires-2 : tie.Need-first-difference-requires-2
-first-difference-requires-2 c κs = search needs
-
-refused-requires-3 : tie.Need-refused-requires-3
-refused-requires-3 c κs = search needs
-
 returns-3 : tie.Need-returns-3
 returns-3 c = let s = c .before .before .before .before .before .before .before .args .s in
     let f = c .before .before .before .before .before .before .before .args .file .now in
     c .refused3 .ensures ∙ sym (open-version s f (c .before .before .before .before .before .if1 .left) (omega (arith, c .before .before .before .before .first-difference .ensures, c .before .before .before .if2 .left)) (omega (arith, c .before .before .first-difference2 .ensures, c .before .if3 .taken)))
-
-bytes-present-requires : tie.Need-bytes-present-requires
-bytes-present-requires c κs = search needs
 
 first-difference-requires-3 : tie.Need-first-difference-requires-3
 first-difference-requires-3 c κs = let s = c .before .before .before .before .before .before .before .args .s in
@@ -51,9 +33,6 @@ cast-refused c = let s = c .before .before .before .before .before .before .befo
     let f = c .before .before .before .before .before .before .before .before .before .args .file .now in
     omega (arith, present-le s f .0, c .before .before .bytes-present .ensures, passed-valid s (c .before .before .before .before .before .before .before .before .before .pre .0) .count .1)
 
-refused-requires-4 : tie.Need-refused-requires-4
-refused-requires-4 c κs = search needs
-
 returns-4 : tie.Need-returns-4
 returns-4 c = let d = c .before .before in
     let e = d .before in
@@ -64,20 +43,11 @@ returns-4 c = let d = c .before .before in
     c .refused4 .ensures ∙ sym (open-header s f (b .before .before .if1 .left) (omega (arith, b .before .first-difference .ensures, b .if2 .left)) (omega (arith, e .before .before .first-difference2 .ensures, e .before .if3 .left))
     (e .bytes-present .result) (d .first-difference3 .result) (e .bytes-present .ensures) (d .first-difference3 .ensures) (c .before .if4 .taken))
 
-header-length-requires : tie.Need-header-length-requires
-header-length-requires c κs = search needs
-
-add-length : tie.Need-add-length
-add-length c = search needs
-
 cast-refused-2 : tie.Need-cast-refused-2
 cast-refused-2 c = let s = c .before .before .before .before .before .before .before .before .before .before .before .args .s in
     let f = c .before .before .before .before .before .before .before .before .before .before .before .args .file .now in
     let v = passed-valid s (c .before .before .before .before .before .before .before .before .before .before .before .pre .0) in
     omega (arith, v .count .1, v .states, c .before .before .before .before .before .before .before .before .before .before .before .pre .1, c .before .header-length .ensures)
-
-refused-requires-5 : tie.Need-refused-requires-5
-refused-requires-5 c κs = search needs
 
 returns-5 : tie.Need-returns-5
 returns-5 c = let d = c .before .before .before .before in
@@ -90,24 +60,6 @@ returns-5 c = let d = c .before .before .before .before in
     c .refused5 .ensures ∙ sym (open-length s f (b .before .before .if1 .left) (omega (arith, b .before .first-difference .ensures, b .if2 .left)) (omega (arith, e .before .before .first-difference2 .ensures, e .before .if3 .left))
     (e .bytes-present .result) (d .first-difference3 .result) (e .bytes-present .ensures) (d .first-difference3 .ensures) (c .before .before .before .if4 .left)
     _ (omega (arith, h .ensures, z .pre .1)) (c .before .if5 .taken))
-
-sub-test : tie.Need-sub-test
-sub-test c = search needs
-
-part-test-start : tie.Need-part-test-start
-part-test-start c = search needs
-
-part-test-end : tie.Need-part-test-end
-part-test-end c = search needs
-
-test-requires : tie.Need-test-requires
-test-requires c κs = search needs
-
-enum-known-verdict : tie.Need-enum-known-verdict
-enum-known-verdict c = search needs
-
-enum-told : tie.Need-enum-told
-enum-told c = search needs
 
 returns-6 : tie.Need-returns-6
 returns-6 c = let d = c .before .before .before .before .before .before .before .before in
@@ -136,30 +88,8 @@ returns-7 c = let d = c .before .before .before .before .before .before .before 
 pub verdict-passed-spec : {M : Type 1} → statement M
 verdict-passed-spec =
     tie.close
-    (tie.spec
-    refused-requires
-    returns
-    first-difference-requires
-    refused-requires-2
-    returns-2
-    first-difference-requires-2
-    refused-requires-3
-    returns-3
-    bytes-present-requires
-    first-difference-requires-3
-    cast-refused
-    refused-requires-4
-    returns-4
-    header-length-requires
-    add-length
-    cast-refused-2
-    refused-requires-5
-    returns-5
-    sub-test
-    part-test-start
-    part-test-end
-    test-requires
-    enum-known-verdict
-    enum-told
-    returns-6
-    returns-7)
+    (tie.spec (λ c κs. search needs) returns (λ c κs. search needs) (λ c κs. search needs) returns-2 (λ c κs. search needs)
+    (λ c κs. search needs) returns-3 (λ c κs. search needs) first-difference-requires-3 cast-refused (λ c κs. search needs)
+    returns-4 (λ c κs. search needs) (λ c. search needs) cast-refused-2 (λ c κs. search needs) returns-5
+    (λ c. search needs) (λ c. search needs) (λ c. search needs) (λ c κs. search needs) (λ c. search needs)
+    (λ c. search needs) returns-6 returns-7)

@@ -18,24 +18,6 @@ Inv-loop s n file₀ end i₀ file i = (i ≤ end) × (length file ≡ length fi
 abbrev μ-loop : tie.MeasureT-loop
 μ-loop s n file₀ end i₀ file i = end - i
 
-header-length-requires : tie.Need-header-length-requires Inv-loop μ-loop
-header-length-requires c κs = search needs
-
-loop-holds : tie.Need-loop-holds Inv-loop μ-loop
-loop-holds c = search needs
-
-header-byte-requires : tie.Need-header-byte-requires Inv-loop μ-loop
-header-byte-requires c κs = search needs
-
-slice-write-file : tie.Need-slice-write-file Inv-loop μ-loop
-slice-write-file c = search needs
-
-add-i : tie.Need-add-i Inv-loop μ-loop
-add-i c = search needs
-
-loop-less : tie.Need-loop-less Inv-loop μ-loop
-loop-less c = search needs
-
 loop-again : tie.Need-loop-again Inv-loop μ-loop
 loop-again c = let l = c .before .before .loop in
     let a = c .before .before .before .before .before .args in
@@ -59,15 +41,5 @@ returns c = let l = c .before .loop in
 pub put-header-spec : {M : Type 1} → statement M
 put-header-spec =
     tie.close
-    (tie.spec
-    Inv-loop
-    μ-loop
-    header-length-requires
-    loop-holds
-    header-byte-requires
-    slice-write-file
-    add-i
-    loop-less
-    loop-again
-    same-length
-    returns)
+    (tie.spec Inv-loop μ-loop (λ c κs. search needs) (λ c. search needs) (λ c κs. search needs) (λ c. search needs)
+    (λ c. search needs) (λ c. search needs) loop-again same-length returns)

@@ -18,14 +18,8 @@ Inv-loop s i₀ i = (i ≤ 7) × (testSet s ≡ lowestFault s (7 - i) i (testSta
 abbrev μ-loop : tie.MeasureT-loop
 μ-loop s i₀ i = 7 - i
 
-name-fits-requires : tie.Need-name-fits-requires Inv-loop μ-loop
-name-fits-requires c κs = search needs
-
 returns : tie.Need-returns Inv-loop μ-loop
 returns c = sym (test-unnamed (c .before .before .before .args .s) (sym (c .before .name-fits .ensures) ∙ not-true _ (c .if1 .taken)))
-
-from-to-requires : tie.Need-from-to-requires Inv-loop μ-loop
-from-to-requires c κs = search needs
 
 returns-2 : tie.Need-returns-2 Inv-loop μ-loop
 returns-2 c = sym (test-counted (c .before .before .before .before .before .args .s) false (sym (c .before .before .before .name-fits .ensures) ∙ not-false _ (c .before .before .if1 .left)) (sym (c .before .from-to .ensures) ∙ not-true _ (c .if2 .taken)))
@@ -33,25 +27,10 @@ returns-2 c = sym (test-counted (c .before .before .before .before .before .args
 loop-holds : tie.Need-loop-holds Inv-loop μ-loop
 loop-holds c = (omega arith, test-counted (c .before .before .before .before .before .args .s) true (sym (c .before .before .before .name-fits .ensures) ∙ not-false _ (c .before .before .if1 .left)) (sym (c .before .from-to .ensures) ∙ not-false _ (c .if2 .left)))
 
-fault-at-requires : tie.Need-fault-at-requires Inv-loop μ-loop
-fault-at-requires c κs = search needs
-
-add-t11 : tie.Need-add-t11 Inv-loop μ-loop
-add-t11 c = search needs
-
-cast-t12 : tie.Need-cast-t12 Inv-loop μ-loop
-cast-t12 c = search needs
-
 returns-3 : tie.Need-returns-3 Inv-loop μ-loop
 returns-3 c = let s = c .before .before .before .before .before .before .before .before .before .args .s in
     let e = c .before .fault-at .ensures in
     sym (c .before .before .before .loop .inv .1 ∙ fault-here s (c .before .before .before .loop .i) (testStates s) (omega arith) (λ z. c .if3 .taken (e ∙ z)) ∙ ap (λ n. Refused (record { number = n; place = c .before .before .before .loop .i + 1 })) (sym e))
-
-add-i : tie.Need-add-i Inv-loop μ-loop
-add-i c = search needs
-
-loop-less : tie.Need-loop-less Inv-loop μ-loop
-loop-less c = search needs
 
 loop-again : tie.Need-loop-again Inv-loop μ-loop
 loop-again c = let s = c .before .before .before .before .before .before .before .before .before .args .s in
@@ -66,9 +45,6 @@ returns-4 : tie.Need-returns-4 Inv-loop μ-loop
 returns-4 c = let s = c .before .before .before .before .before .before .before .before .before .args .s in
     sym (c .before .before .before .loop .inv .1 ∙ fault-end s (c .before .before .before .loop .i) (testStates s) (omega arith) ∙ states-by s true (lt-ltb 60000 (statesOf s) (omega (arith, c .before .states .ensures))))
 
-cast-t15 : tie.Need-cast-t15 Inv-loop μ-loop
-cast-t15 c = search needs
-
 returns-5 : tie.Need-returns-5 Inv-loop μ-loop
 returns-5 c = let s = c .before .before .before .before .before .before .before .before .before .args .s in
     sym (c .before .before .before .loop .inv .1 ∙ fault-end s (c .before .before .before .loop .i) (testStates s) (omega arith) ∙ states-by s false (le-ltb 60000 (statesOf s) (omega (arith, c .before .states .ensures))) ∙ ap States (sym (c .before .states .ensures)))
@@ -76,22 +52,6 @@ returns-5 c = let s = c .before .before .before .before .before .before .before 
 pub test-spec : {M : Type 1} → statement M
 test-spec =
     tie.close
-    (tie.spec
-    Inv-loop
-    μ-loop
-    name-fits-requires
-    returns
-    from-to-requires
-    returns-2
-    loop-holds
-    fault-at-requires
-    add-t11
-    cast-t12
-    returns-3
-    add-i
-    loop-less
-    loop-again
-    states-requires
-    returns-4
-    cast-t15
-    returns-5)
+    (tie.spec Inv-loop μ-loop (λ c κs. search needs) returns (λ c κs. search needs) returns-2 loop-holds
+    (λ c κs. search needs) (λ c. search needs) (λ c. search needs) returns-3 (λ c. search needs) (λ c. search needs)
+    loop-again states-requires returns-4 (λ c. search needs) returns-5)
