@@ -6,6 +6,8 @@ use cases::sets::V2;
 use cases::sets::V3;
 use cases::sets::V4;
 use cases::sets::V5;
+use cases::sets::V6;
+use cases::sets::V7;
 use cases::sets::V13;
 use cases::sets::V14;
 use cases::sets::V15;
@@ -214,6 +216,10 @@ fn state_cases() {
     show(
         b"14,16 and 1,5 and 4,5",
         three(hard(14, V14, V16), hard(1, V1, V5), hard(4, V4, V5)),
+    );
+    show(
+        b"4,7 and 4,7 and 6,7",
+        three(hard(4, V4, V7), hard(4, V4, V7), hard(6, V6, V7)),
     );
     show(b"16,16 and 13,16", two(large, hard(13, V13, V16)));
     show(

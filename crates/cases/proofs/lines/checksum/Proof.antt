@@ -1,47 +1,42 @@
--- Nothing has to hold from byte to byte.
+-- The sum with the bytes from i on more is the sum of all.
+use mathlib.Core.Path.{_≡_, refl, sym, ap, _∙_}
+use mathlib.Core.List.{List}
+use Prim.Native.Nat.{ℕ, _+_, _-_, _≤_, _<_}
+use native.Mathlib.Numerals.{add-one}
+use native.Mathlib.Omega.{arith}
+use lib.ListN.{length, drop, getD}
+use lib.Seq.{drop-cons, drop-length}
 use borrow.Author.Needs.{needs}
-use Prim.Native.Nat.{_-_}
-use lib.ListN.{length}
+use Rattle.cases.specs.Sums.{nextSum, sumOn}
 use Rattle.cases.proofs.lines.checksum.Statement.{statement}
 use Rattle.cases.proofs.lines.checksum.Tie as tie
 
 abbrev Inv-loop : tie.InvT-loop
-Inv-loop buf sum₀ i₀ sum i = Unit {0}
+Inv-loop buf sum₀ i₀ sum i = (i ≤ length buf) × (sumOn sum (drop i buf) ≡ sumOn 0 buf)
 
 abbrev μ-loop : tie.MeasureT-loop
 μ-loop buf sum₀ i₀ sum i = length buf - i
 
-loop-holds : tie.Need-loop-holds Inv-loop μ-loop
-loop-holds c = tt
-
-shared-slice-read-next-sum : tie.Need-shared-slice-read-next-sum Inv-loop μ-loop
-shared-slice-read-next-sum c = search needs
-
-next-sum-requires : tie.Need-next-sum-requires Inv-loop μ-loop
-next-sum-requires c κs = tt
-
-add-i : tie.Need-add-i Inv-loop μ-loop
-add-i c = search needs
-
-loop-less : tie.Need-loop-less Inv-loop μ-loop
-loop-less c = search needs
+one-more : (sum i : ℕ) (b : List ℕ) → i < length b → sumOn sum (drop i b) ≡ sumOn (nextSum sum (getD b i 0)) (drop (i + 1) b)
+unfolding sumOn
+one-more sum i b h = ap (sumOn sum) (drop-cons b i 0 h) ∙ ap (λ k. sumOn (nextSum sum (getD b i 0)) (drop k b)) (sym (add-one i))
 
 loop-again : tie.Need-loop-again Inv-loop μ-loop
-loop-again c = tt
+loop-again c =
+    let l = c .before .before .before .loop in
+    let b = c .before .before .before .before .before .args .buf .now in
+    (omega arith, ap (λ s. sumOn s (drop (l .i + 1) b)) (c .next-sum .ensures) ∙ sym (one-more (l .sum) (l .i) b (omega arith)) ∙ l .inv .1)
 
 returns : tie.Need-returns Inv-loop μ-loop
-returns c = tt
+unfolding sumOn
+returns c =
+    let l = c .before .loop in
+    let b = c .before .before .before .args .buf .now in
+    let e : l .i ≡ length b = omega arith in
+    sym (ap (sumOn (l .sum)) (ap (λ i. drop i b) e ∙ drop-length b)) ∙ l .inv .1
 
 pub checksum-spec : {M : Type 1} → statement M
 checksum-spec =
     tie.close
-    (tie.spec
-    Inv-loop
-    μ-loop
-    loop-holds
-    shared-slice-read-next-sum
-    next-sum-requires
-    add-i
-    loop-less
-    loop-again
-    returns)
+    (tie.spec Inv-loop μ-loop (λ c. (omega arith, refl)) (λ c. search needs) (λ c κs. tt) (λ c. search needs)
+    (λ c. search needs) loop-again returns)
