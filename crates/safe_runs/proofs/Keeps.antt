@@ -7,7 +7,7 @@ use native.Mathlib.Omega.{arith}
 use lib.Dec.{T, eqb, leb, ltb, eqb→eq, leb→le, ltb→lt, lt→ltb, nltb→le, T-not}
 use lib.ListN.{length, getD}
 use borrow.Author.Tests.{lt-ltb, le-ltb, le-leb, eq-eqb}
-use Rattle.arena.proofs.Tests.{by-cond, nor, and-left, and-right, and-by, T-true, T-false, first-least}
+use Rattle.arena.proofs.Tests.{by-cond, nor, and-by, T-true, T-false, first-least}
 use Rattle.tasks.specs.declared.sets.Task.{Task}
 use Rattle.tasks.specs.declared.sets.Set.{Set}
 use Rattle.tasks.specs.Refusals.{answered, refusing, bufferTooShort, stateDoesNotFit, outOfTurn, ticksUsedUp, proposalAboveCount, badEntry, wrongReading, impossibleOutcome, hardMiss}
@@ -31,7 +31,7 @@ use Rattle.guard.specs.Runs.{tickLimit, freshState, freshCounts, noCounts, coun
 use Rattle.guard.specs.Ask.{serves, choiceFor, askGiven, askRefused, askEntry, askFits, askTested, askOf, saidChosen}
 use Rattle.guard.specs.Report.{nextReading, flagsAt, tickAt, isSuch, firstSuch, strays, impossible, stateAfter, countsAfter, stateThen, countsThen, runAfter, reportRefused, reportNamed, reportAwaited, reportTested, reportOf}
 use Rattle.guard.specs.Calls.{Call, ask, report, saidBy, runBy, runFrom, reached}
-use Rattle.guard.proofs.RunLaws.{seven-at, Fit, Fits, fits-by, open-ticks}
+use Rattle.guard.proofs.RunLaws.{seven-at, Fit, Fits, fits-by, few-substitutions, open-ticks}
 use Rattle.safe_runs.proofs.Guarded.{Found, choice-back, choice-other, choice-legal}
 use Rattle.safe_runs.proofs.TickSums.{fit-tick}
 
@@ -196,15 +196,11 @@ module _ (s : Set) (q : Passed s) (r : Run) (w : Fits s r) (o : Outcome) where
       seven-at noCounts (countsThen s (r .states) (r .counts) o) k l
       ∙ ap (λ b. cond b (countsAfter (stateAt (r .states) k) (countsAt (r .counts) k) (flagsAt o k)) (countsAt (r .counts) k)) (le-ltb k (s .count) h)
 
-  awaited-few : (a : Awaited) → T (awaitedFits s r a) → r .substitutions ≤ r .ticks + 1
-  awaited-few Awaited.Nothing t = omega (arith, leb→le (r .substitutions) (r .ticks) t)
-  awaited-few (Awaited.Choice c) t = leb→le (r .substitutions) (r .ticks + 1) (and-left (leb (r .substitutions) (r .ticks + 1)) _ (and-right (ltb (r .ticks) tickLimit) _ t))
-
   pub after-fits : r .ticks < tickLimit → T (not (impossible s (r .states) o)) → s .count ≤ firstSuch s (r .states) o true → Fits s (runAfter s r o)
   unfolding runAfter tickAt
   after-fits l i m = record {
     ticks = omega arith;
-    awaited = subst T (sym (le-leb (r .substitutions) (r .ticks + 1) (awaited-few (r .awaited) (w .awaited)))) tt;
+    awaited = subst T (sym (le-leb (r .substitutions) (r .ticks + 1) (few-substitutions s r w))) tt;
     tasks = λ k h.
         fit-same _ _ _ _ (state-then k h) (counts-then k h)
         (fit-tick (taskAt s k) (passed-valid s q .tasks k h) (eqb (o .choice) (suc k)) (stateAt (r .states) k) (flagsAt o k) (r .ticks) (countsAt (r .counts) k) (w .tasks k h) (possible-none s (r .states) o i k h) (none-such s (r .states) o true m k h));

@@ -22,7 +22,8 @@ use Rattle.tasks.specs.Sets.{taskAt, statesTo, Passed}
 use Rattle.game.specs.declared.states.TaskState.{TaskState}
 use Rattle.game.specs.States.{stateAt, indexOf, taskStateAt}
 use Rattle.game.specs.declared.ticks.Ticked.the-variants.{Impossible, Missed, Next}
-use Rattle.game.specs.Ticks.{Flags, flagged, canFinish, can, jobAfter, late, arrived, tickOf}
+use Rattle.game.specs.declared.ticks.Flags.{Flags}
+use Rattle.game.specs.Ticks.{flagged, canFinish, can, jobAfter, late, arrived, tickOf}
 use Rattle.game.specs.Game.{Seen, flags, movesOf, beside, outcomesTo, arenaOf}
 use Rattle.game.proofs.ListTests.{those-at, map-at, gather-at}
 use Rattle.game.proofs.Sound.{possible}

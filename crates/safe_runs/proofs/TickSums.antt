@@ -14,7 +14,8 @@ use Rattle.game.specs.declared.states.Job.the-variants.{Empty, InHand}
 use Rattle.game.specs.declared.states.TaskState.{TaskState}
 use Rattle.game.specs.declared.ticks.Ticked.{Ticked}
 use Rattle.game.specs.declared.ticks.Ticked.the-variants.{Impossible, Missed, Next}
-use Rattle.game.specs.Ticks.{Flags, inHand, canFinish, can, jobAfter, late, arrived, tickOf}
+use Rattle.game.specs.declared.ticks.Flags.{Flags}
+use Rattle.game.specs.Ticks.{inHand, canFinish, can, jobAfter, late, arrived, tickOf}
 use Rattle.game.proofs.Sound.{ranged, tick-range, possible}
 use Rattle.guard.specs.declared.runs.Counts.{Counts}
 use Rattle.guard.specs.Report.{isSuch, countsAfter, stateAfter}

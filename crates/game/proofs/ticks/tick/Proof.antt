@@ -4,7 +4,7 @@ use mathlib.Core.Path.{_≡_, sym, _∙_}
 use native.Mathlib.Omega.{arith}
 use borrow.Author.Tests.{not-true, not-false}
 use Rattle.tasks.proofs.ListLaws.{longest-le}
-use Rattle.game.specs.Ticks.{flagged, can, tickOf}
+use Rattle.game.specs.Ticks.{can, tickOf}
 use Rattle.game.proofs.TickLaws.{can-job, can-age}
 use borrow.Author.Needs.{needs}
 use Rattle.game.proofs.ticks.tick.Statement.{statement}
@@ -17,7 +17,7 @@ returns : tie.Need-returns
 unfolding tickOf
 returns c = simp (sym (c .before .is-possible .ensures) ∙ not-true _ (c .if1 .taken))
 
-possible : (c : tie.Else1) → let a = c .before .before .args in can (a .t) (a .run) (a .x) (flagged (a .finishes) (a .arrives)) ≡ true
+possible : (c : tie.Else1) → let a = c .before .before .args in can (a .t) (a .run) (a .x) (a .f) ≡ true
 possible c = sym (c .before .is-possible .ensures) ∙ not-false _ (c .if1 .left)
 
 job-after-requires : tie.Need-job-after-requires

@@ -22,7 +22,7 @@ more-requires-3 : tie.Need-more-requires-3
 more-requires-3 c κs = search needs
 
 returns : tie.Need-returns
-returns c = simp (c .before .before .more .ensures, c .before .more2 .ensures, c .more3 .ensures, c .before .before .before .both2 .ensures, c .before .before .before .before .both .ensures, c .before .before .before .before .before .in-hand .ensures)
+returns c = simp (c .before .before .more .ensures, c .before .more2 .ensures, c .more3 .ensures, c .before .before .before .both2 .ensures, c .before .before .before .before .both .ensures, c .before .before .before .before .before .before .in-hand .ensures)
 
 pub counts-after-spec : {M : Type 1} → statement M
 counts-after-spec =

@@ -6,7 +6,7 @@ use Rattle.tasks.specs.Sets.{taskAt}
 use Rattle.game.specs.Ticks.{runnable}
 use Rattle.tasks.proofs.Valid.{passed-valid}
 use Rattle.shield.specs.Shield.{legalIn}
-use Rattle.shield.proofs.FineLaws.{legal-none, legal-task}
+use Rattle.game.proofs.LegalLaws.{legal-none, legal-task}
 use borrow.Author.Needs.{needs}
 use Rattle.shield.proofs.walks.is_legal.Statement.{statement}
 use Rattle.shield.proofs.walks.is_legal.Tie as tie
@@ -19,6 +19,7 @@ cast-if2 : tie.Need-cast-if2
 cast-if2 c = search needs
 
 returns-2 : tie.Need-returns-2
+unfolding legalIn
 returns-2 c = sym (legal-none _ _ _ (c .if2 .taken))
 
 sub-t : tie.Need-sub-t
@@ -47,8 +48,9 @@ is-runnable-requires : tie.Need-is-runnable-requires
 is-runnable-requires c κs = search needs
 
 returns-3 : tie.Need-returns-3
+unfolding legalIn
 returns-3 c = let a = c .before .before .before .before .before .before .args in
-    c .is-runnable .ensures ∙ ap (runnable (taskAt (a .t1) (a .choice - 1))) (c .before .state-of .ensures) ∙ sym (legal-task (a .t1) (a .d .now) (a .choice) (c .before .before .before .before .before .if1 .left) (c .before .before .before .before .if2 .left))
+    c .is-runnable .ensures ∙ ap (runnable (taskAt (a .t1) (a .choice - 1))) (c .before .state-of .ensures) ∙ sym (legal-task (a .t1) _ (a .choice) (c .before .before .before .before .before .if1 .left) (c .before .before .before .before .if2 .left))
 
 pub is-legal-spec : {M : Type 1} → statement M
 is-legal-spec =
