@@ -5,12 +5,6 @@ use mathlib.Core.Path.{_∙_}
 use Rattle.guard.proofs.reports.counts_then.Statement.{statement}
 use Rattle.guard.proofs.reports.counts_then.Tie as tie
 
-flags-at-requires : tie.Need-flags-at-requires
-flags-at-requires c κs = search needs
-
-counts-after-requires : tie.Need-counts-after-requires
-counts-after-requires c κs = search needs
-
 returns : tie.Need-returns
 returns c = c .counts-after .ensures ∙ simp (c .before .flags-at .ensures, lt-ltb _ _ (c .before .before .if1 .taken))
 
@@ -18,4 +12,4 @@ returns-2 : tie.Need-returns-2
 returns-2 c = simp (le-ltb _ _ (c .if1 .left))
 
 pub counts-then-spec : {M : Type 1} → statement M
-counts-then-spec = tie.close (tie.spec flags-at-requires counts-after-requires returns returns-2)
+counts-then-spec = tie.close (tie.spec (λ c κs. search needs) (λ c κs. search needs) returns returns-2)
