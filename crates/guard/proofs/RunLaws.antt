@@ -22,7 +22,7 @@ use Rattle.guard.specs.declared.runs.Counts.{Counts}
 use Rattle.guard.specs.declared.runs.Awaited.{Awaited}
 use Rattle.guard.specs.declared.runs.Awaited.the-variants.{Nothing, Choice}
 use Rattle.guard.specs.declared.runs.Run.{Run}
-use Rattle.guard.specs.Runs.{tickLimit, seven, countsAt, sumHolds, taskFits, placeEmpty, placeFits, awaitedFits, fits, Small, Smalls}
+use Rattle.guard.specs.Runs.{tickLimit, seven, countsAt, sumHolds, taskFits, placeEmpty, placeFits, awaitedFits, fits, Room, Small, Smalls}
 
 -- seven values that are equal one by one
 pub all-seven : {A : Type 0} {a b c d e f g a′ b′ c′ d′ e′ f′ g′ : A} → a ≡ a′ → b ≡ b′ → c ≡ c′ → d ≡ d′ → e ≡ e′ → f ≡ f′ → g ≡ g′
@@ -154,7 +154,7 @@ module _ (s : Set) (r : Run) (w : Fits s r) where
   pub few-substitutions : r .substitutions ≤ r .ticks + 1
   few-substitutions = few-awaited s r (r .awaited) (w .awaited)
 
-  pub small-substitutions : r .substitutions < 4294967295
+  pub small-substitutions : Room (r .substitutions)
   small-substitutions = omega (arith, few-substitutions, w .ticks)
 
   pub open-ticks : (c : ℕ) → r .awaited ≡ Choice c → r .ticks < tickLimit

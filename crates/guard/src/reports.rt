@@ -24,7 +24,7 @@ ghost use Rattle.arena.specs.Tests.{one, first};
 ghost use Rattle.tasks.specs.Sets.{Passed};
 ghost use Rattle.game.specs.States.{stateAt};
 ghost use Rattle.game.specs.Ticks.{tickOf};
-ghost use Rattle.guard.specs.Runs.{tickLimit, seven, countsAt, Small, Smalls, fits};
+ghost use Rattle.guard.specs.Runs.{tickLimit, Room, seven, countsAt, Small, Smalls, fits};
 ghost use Rattle.guard.specs.Report.{nextReading, flagsAt, tickAt, ticked, isSuch, strays, stateAfter, countsAfter, runAfter, reportRefused, reportNamed, reportAwaited, reportOf};
 
 // What a report says of the awaited choice: whether the run job finished, and which jobs arrived.
@@ -169,7 +169,7 @@ fn move_states(n: usize, xs: [TaskState; 7], ts: [Ticked; 7]) -> [TaskState; 7]
 
 // One more, if so.
 fn more(n: u32, so: bool) -> u32
-    requires { ⌜ n < 4294967295 ⌝ }
+    requires { ⌜ Room n ⌝ }
     ensures { λ r. ⌜ r ≡ n + one so ⌝ }
 {
     if so { n + 1 } else { n }

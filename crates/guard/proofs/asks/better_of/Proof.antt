@@ -19,12 +19,12 @@ unfolding better
 returns-2 c = simp (sym (c .before .before .allows .ensures) ∙ not-false _ (c .before .if1 .left), c .if2 .taken)
 
 -- allowed, with another allowed before it: by the time left
-closest : (c : tie.After-time-left2) (b : Bool) → ltb (c .before .time-left .result) (c .time-left2 .result) ≡ b
-    → let a = c .before .before .before .before .before .before .before .before .before .args in cond b (a .k + 1) (a .best) ≡ better (a .t1) (a .t2) (a .entry) (a .best) (a .k)
+closest : (c : tie.After-slack-of2) (b : Bool) → ltb (c .before .slack-of .result) (c .slack-of2 .result) ≡ b
+    → let a = c .before .before .before .before .before .args in cond b (a .k + 1) (a .best) ≡ better (a .s) (a .xs) (a .entry) (a .best) (a .k)
 closest c b e =
-    let i = c .before .before .before .before .before .before in
+    let i = c .before .before in
     let a = i .before .before .before .args in
-    sym (better-by (a .t1) (a .t2) (a .entry) (a .best) (a .k) b (sym (i .before .before .allows .ensures) ∙ not-false _ (i .before .if1 .left)) (i .if2 .left) (sym (ap₂ ltb (c .before .time-left .ensures) (c .time-left2 .ensures)) ∙ e))
+    sym (better-by (a .s) (a .xs) (a .entry) (a .best) (a .k) b (sym (i .before .before .allows .ensures) ∙ not-false _ (i .before .if1 .left)) (i .if2 .left) (sym (ap₂ ltb (c .before .slack-of .ensures) (c .slack-of2 .ensures)) ∙ e))
 
 returns-3 : tie.Need-returns-3
 returns-3 c = closest (c .before) true (lt-ltb _ _ (c .if3 .taken))
@@ -40,8 +40,6 @@ better-of-spec =
     returns
     (λ c. search needs)
     returns-2
-    (λ c. search needs) (λ c. search needs) (λ c. search needs) (λ c. search needs) (λ c. search needs)
-    (λ c. search needs) (λ c. search needs) (λ c. search needs) (λ c. search needs) (λ c. search needs)
-    (λ c κs. search needs) (λ c κs. search needs) (λ c. search needs)
+    (λ c κs. search needs) (λ c. search needs) (λ c κs. search needs) (λ c. search needs)
     returns-3
     returns-4)
