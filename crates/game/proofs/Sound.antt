@@ -21,7 +21,8 @@ use Rattle.game.specs.declared.states.TaskState.{TaskState}
 use Rattle.game.specs.declared.ticks.Ticked.{Ticked}
 use Rattle.game.specs.declared.ticks.Ticked.the-variants as Ticked
 use Rattle.game.specs.States.{givenFits, inRange, localOf, taskStateAt}
-use Rattle.game.specs.Ticks.{Flags, flagged, inHand, allowed, canFinish, canArrive, can, runnable, jobAfter, late, arrived, tickOf}
+use Rattle.game.specs.declared.ticks.Flags.{Flags}
+use Rattle.game.specs.Ticks.{flagged, inHand, allowed, canFinish, canArrive, can, runnable, jobAfter, late, arrived, tickOf}
 use Rattle.game.specs.Game.{gather, flags, movesOf, beside, outcomesTo, legalAt, arenaOf}
 use Rattle.game.proofs.StateLaws.{local-lt, states-pos, range-at}
 use Rattle.game.proofs.ListTests.{Some, those-by, all-gather, all-map, some-map, some-gather}

@@ -20,7 +20,8 @@ use Rattle.game.specs.declared.states.TaskState.{TaskState}
 use Rattle.game.specs.declared.ticks.Moves.{Moves}
 use Rattle.game.specs.declared.ticks.Ticked.the-variants.{Impossible, Missed, Next}
 use Rattle.game.specs.States.{slots, localOf, jobOf, stateOf, givenFits, inRange}
-use Rattle.game.specs.Ticks.{Flags, inHand, canFinish, canArrive, can, jobAfter, late, arrived, tickOf}
+use Rattle.game.specs.declared.ticks.Flags.{Flags}
+use Rattle.game.specs.Ticks.{inHand, canFinish, canArrive, can, jobAfter, late, arrived, tickOf}
 use Rattle.game.specs.Game.{those, flags}
 use Rattle.game.specs.Walk.{lands, everyTick, every, summary}
 use Rattle.game.proofs.StateLaws.{slots-pos, given-job, age-lt, state-range}

@@ -1,9 +1,9 @@
 -- Laws of the seven places, and of a run that fits. Assumes nothing.
-use mathlib.Core.Path.{_≡_, refl, sym, ap, ap₂, subst, _∙_}
+use mathlib.Core.Path.{_≡_, refl, sym, ap, ap₂, subst}
 use mathlib.Core.Logic.{⊎-elim}
 use mathlib.Core.Bool.{Bool, true, false, not, _&&_, cond}
 use mathlib.Core.List.{List, [], _∷_}
-use Prim.Native.Nat.{ℕ, zero, suc, _+_, _-_, _≤_, _<_}
+use Prim.Native.Nat.{ℕ, zero, suc, _+_, _≤_, _<_}
 use native.Mathlib.Omega.{arith}
 use lib.Dec.{T, eqb, leb, ltb, eqb→eq, leb→le, ltb→lt}
 use lib.ListN.{getD}
@@ -16,13 +16,13 @@ use Rattle.tasks.specs.Sets.{taskAt, statesOf}
 use Rattle.tasks.proofs.SetLaws.{within-both}
 use Rattle.game.specs.declared.states.TaskState.{TaskState}
 use Rattle.game.specs.States.{inRange, stateAt, indexOf}
-use Rattle.game.specs.Ticks.{inHand, runnable}
+use Rattle.game.specs.Ticks.{inHand}
 use Rattle.game.proofs.StateLaws.{index-lt}
 use Rattle.guard.specs.declared.runs.Counts.{Counts}
 use Rattle.guard.specs.declared.runs.Awaited.{Awaited}
 use Rattle.guard.specs.declared.runs.Awaited.the-variants.{Nothing, Choice}
 use Rattle.guard.specs.declared.runs.Run.{Run}
-use Rattle.guard.specs.Runs.{tickLimit, seven, countsAt, sumHolds, taskFits, placeEmpty, placeFits, legalFor, awaitedFits, fits, Small, Smalls}
+use Rattle.guard.specs.Runs.{tickLimit, seven, countsAt, sumHolds, taskFits, placeEmpty, placeFits, awaitedFits, fits, Room, Small, Smalls}
 
 -- seven values that are equal one by one
 pub all-seven : {A : Type 0} {a b c d e f g a′ b′ c′ d′ e′ f′ g′ : A} → a ≡ a′ → b ≡ b′ → c ≡ c′ → d ≡ d′ → e ≡ e′ → f ≡ f′ → g ≡ g′
@@ -58,21 +58,6 @@ all-fails n f k h e = T-ext (allBelow n f) false (λ t. subst T e (allBelow-at n
 
 pub all-passes : (n : ℕ) (f : ℕ → Bool) → ((k : ℕ) → k < n → f k ≡ true) → allBelow n f ≡ true
 all-passes n f h = T-true (allBelow n f) (allBelow-by n f (λ i b. subst T (sym (h i b)) tt))
-
--- a choice above the tasks, and that of a task
-module _ (s : Set) (xs : List TaskState) where
-  pub legal-none : (c : ℕ) → s .count < c → legalFor s xs c ≡ false
-  unfolding legalFor
-  legal-none zero h = let z : ⊥ = omega arith in absurd z
-  legal-none (suc k) h = ap (λ b. b && runnable (taskAt s k) (stateAt xs k)) (le-ltb k (s .count) (omega arith))
-
-  pub legal-task : (c : ℕ) → (c ≡ 0 → ⊥) → c ≤ s .count → runnable (taskAt s (c - 1)) (stateAt xs (c - 1)) ≡ legalFor s xs c
-  unfolding legalFor
-  legal-task zero q h = absurd (q refl)
-  legal-task (suc k) q h =
-      let e : suc k - 1 ≡ k = omega arith in
-      ap (λ (n : ℕ). runnable (taskAt s n) (stateAt xs n)) e
-      ∙ sym (ap (λ b. b && runnable (taskAt s k) (stateAt xs k)) (lt-ltb k (s .count) h))
 
 -- where all else is zero, a place is empty if nothing was replaced
 pub empty-last : (x : TaskState) (n : Counts) → x .age ≡ 0 → inHand (x .job) ≡ false → n .arrived ≡ 0 → n .finished ≡ 0 → eqb (n .replaced) 0 ≡ placeEmpty x n
@@ -156,18 +141,21 @@ module _ (s : Set) (r : Run) where
       (allBelow-by 7 (placeFits s r) (λ k l. ⊎-elim (λ h. subst T (sym (place-task k h)) (fit-by _ _ _ _ (w .tasks k h))) (λ h. subst T (sym (place-rest k h)) (w .rest k h l)) (lt-or-le k (s .count)))))
 
 -- what a run that fits leaves room for
-small-awaited : (s : Set) (r : Run) (a : Awaited) → r .ticks ≤ tickLimit → T (awaitedFits s r a) → r .substitutions < 4294967295
-small-awaited s r Nothing h t = omega (arith, leb→le (r .substitutions) (r .ticks) t)
-small-awaited s r (Choice c) h t =
-    omega (arith, leb→le (r .substitutions) (r .ticks + 1) (and-left (leb (r .substitutions) (r .ticks + 1)) _ (and-right (ltb (r .ticks) tickLimit) _ t)))
+few-awaited : (s : Set) (r : Run) (a : Awaited) → T (awaitedFits s r a) → r .substitutions ≤ r .ticks + 1
+few-awaited s r Nothing t = omega (arith, leb→le (r .substitutions) (r .ticks) t)
+few-awaited s r (Choice c) t =
+    leb→le (r .substitutions) (r .ticks + 1) (and-left (leb (r .substitutions) (r .ticks + 1)) _ (and-right (ltb (r .ticks) tickLimit) _ t))
 
 open-awaited : (s : Set) (r : Run) (a : Awaited) (c : ℕ) → a ≡ Choice c → T (awaitedFits s r a) → r .ticks < tickLimit
 open-awaited s r Nothing c e t = let z : _≡_ {A = ℕ} 0 1 = cc in absurd (omega arith)
 open-awaited s r (Choice d) c e t = ltb→lt (r .ticks) tickLimit (and-left (ltb (r .ticks) tickLimit) _ t)
 
 module _ (s : Set) (r : Run) (w : Fits s r) where
-  pub small-substitutions : r .substitutions < 4294967295
-  small-substitutions = small-awaited s r (r .awaited) (w .ticks) (w .awaited)
+  pub few-substitutions : r .substitutions ≤ r .ticks + 1
+  few-substitutions = few-awaited s r (r .awaited) (w .awaited)
+
+  pub small-substitutions : Room (r .substitutions)
+  small-substitutions = omega (arith, few-substitutions, w .ticks)
 
   pub open-ticks : (c : ℕ) → r .awaited ≡ Choice c → r .ticks < tickLimit
   open-ticks c e = open-awaited s r (r .awaited) c e (w .awaited)

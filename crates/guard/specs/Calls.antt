@@ -1,9 +1,10 @@
 -- Calls on a run, each with the run that the one before it gave.
+use mathlib.Core.Path.{_≡_}
 use mathlib.Core.Bool.{Bool}
 use mathlib.Core.List.{List, [], _∷_}
 use Prim.Native.Nat.{ℕ}
 use Rattle.tasks.specs.declared.sets.Set.{Set}
-use Rattle.tasks.specs.Refusals.{Said}
+use Rattle.tasks.specs.Refusals.{Said, badEntry, hardMiss, stateDoesNotFit}
 use Rattle.guard.specs.declared.runs.Run.{Run}
 use Rattle.guard.specs.Runs.{startOf, saidTaken}
 use Rattle.guard.specs.Ask.{askOf, saidChosen}
@@ -32,3 +33,9 @@ runFrom s table r (c ∷ cs) = runFrom s table (runBy s table r c) cs
 -- the run that a start and a list of calls lead to
 abbrev pub reached : Set → List ℕ → ℕ → List Call → Run
 reached s table reading cs = runFrom s table (startOf s reading .run) cs
+
+-- an answer that is none of 16, 19 and 21
+pub record Clean (a : Said) : Type 0 where
+  pub entry : a .number ≡ badEntry → ⊥
+  pub miss : a .number ≡ hardMiss → ⊥
+  pub fit : a .number ≡ stateDoesNotFit → ⊥

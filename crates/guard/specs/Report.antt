@@ -14,7 +14,8 @@ use Rattle.game.specs.declared.states.TaskState.{TaskState}
 use Rattle.game.specs.declared.ticks.Ticked.{Ticked}
 use Rattle.game.specs.declared.ticks.Ticked.the-variants.{Impossible, Missed, Next}
 use Rattle.game.specs.States.{stateAt}
-use Rattle.game.specs.Ticks.{Flags, flagged, inHand, tickOf}
+use Rattle.game.specs.declared.ticks.Flags.{Flags}
+use Rattle.game.specs.Ticks.{flagged, inHand, tickOf}
 use Rattle.game.specs.Game.{Seen}
 use Rattle.shield.specs.Entries.{names}
 use Rattle.guard.specs.declared.runs.Counts.{Counts}

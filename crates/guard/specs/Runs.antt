@@ -82,11 +82,15 @@ sumHolds x n = eqb (n .arrived) (n .finished + n .replaced + one (inHand (x .job
 unfoldable pub taskFits : Task → ℕ → TaskState → Counts → Bool
 taskFits τ ticks x n = inRange τ x && (sumHolds x n && within 1 (ticks + 1) (n .arrived))
 
--- counts that one more job leaves within 32 bits
+-- one more is still within 32 bits
+abbrev pub Room : ℕ → Type 0
+Room n = n < 4294967295
+
+-- so for each of a task's counts, and for each task's
 pub record Small (n : Counts) : Type 0 where
-  pub arrived : n .arrived < 4294967295
-  pub finished : n .finished < 4294967295
-  pub replaced : n .replaced < 4294967295
+  pub arrived : Room (n .arrived)
+  pub finished : Room (n .finished)
+  pub replaced : Room (n .replaced)
 
 pub record Smalls (ns : List Counts) : Type 0 where
   pub first : Small (countsAt ns 0)

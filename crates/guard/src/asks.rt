@@ -9,15 +9,14 @@ use tasks::refusals;
 use tasks::refusals::Refusal;
 use tasks::sets;
 use tasks::sets::Set;
-use tasks::sets::Task;
 use tasks::sets::Tested;
 ghost use mathlib.Core.Path.{_≡_};
-ghost use Prim.Native.Nat.{_-_, _<_, _≤_};
+ghost use Prim.Native.Nat.{_<_, _≤_};
 ghost use lib.Dec.{T};
 ghost use lib.ListN.{length};
 ghost use Rattle.tasks.specs.Sets.{statesOf, Passed};
-ghost use Rattle.guard.specs.Runs.{fits};
-ghost use Rattle.guard.specs.Ask.{servesFor, serves, better, substituteTo, choiceFor, askGiven, askRefused, askEntry, askFits, askOf};
+ghost use Rattle.guard.specs.Runs.{Room, fits};
+ghost use Rattle.guard.specs.Ask.{servesFor, serves, slack, better, substituteTo, choiceFor, askGiven, askRefused, askEntry, askFits, askOf};
 
 // What an ask answers: a choice, 0 idle and i task i, or the refusal.
 pub enum Chosen {
@@ -73,10 +72,13 @@ fn serves_state(s: Set, xs: [TaskState; 7], entry: u8) -> bool
     true
 }
 
-// D minus age, 0 past the deadline.
-fn time_left(t: Task, x: TaskState) -> u8
-    ensures { λ r. ⌜ r ≡ t .deadline - x .age ⌝ }
+// D minus age of task k + 1, 0 past the deadline.
+fn slack_of(s: Set, xs: [TaskState; 7], k: usize) -> u8
+    requires { ⌜ k < 7 ⌝ }
+    ensures { λ r. ⌜ r ≡ slack s xs k ⌝ }
 {
+    let t = s.tasks[k];
+    let x = xs[k];
     if t.deadline < x.age {
         return 0;
     }
@@ -94,11 +96,7 @@ fn better_of(s: Set, xs: [TaskState; 7], entry: u8, best: usize, k: usize) -> us
     if best == 0 {
         return k + 1;
     }
-    let t = s.tasks[k];
-    let x = xs[k];
-    let u = s.tasks[best - 1];
-    let y = xs[best - 1];
-    if time_left(t, x) < time_left(u, y) {
+    if slack_of(s, xs, k) < slack_of(s, xs, best - 1) {
         return k + 1;
     }
     best
@@ -132,7 +130,7 @@ fn choose(s: Set, xs: [TaskState; 7], entry: u8, proposal: u8) -> u8
 
 // The choice is given and awaited; a substitution is counted.
 fn give(r: Run, proposal: u8, choice: u8) -> Asked
-    requires { ⌜ r .substitutions < 4294967295 ⌝ }
+    requires { ⌜ Room (r .substitutions) ⌝ }
     ensures { λ a. ⌜ a ≡ askGiven r proposal choice ⌝ }
 {
     let xs = r.states;

@@ -7,6 +7,7 @@ use crate::runs::Taken;
 use game::states::Job;
 use game::states::TaskState;
 use game::ticks;
+use game::ticks::Flags;
 use game::ticks::Ticked;
 use shield::entries;
 use tasks::refusals;
@@ -16,14 +17,14 @@ use tasks::sets::Set;
 use tasks::sets::Task;
 use tasks::sets::Tested;
 ghost use mathlib.Core.Path.{_≡_};
-ghost use mathlib.Core.Bool.{_&&_, cond};
-ghost use Prim.Native.Nat.{ℕ, suc, _+_, _≤_, _<_};
+ghost use mathlib.Core.Bool.{cond};
+ghost use Prim.Native.Nat.{suc, _+_, _≤_, _<_};
 ghost use lib.Dec.{T, eqb, ltb};
 ghost use Rattle.arena.specs.Tests.{one, first};
 ghost use Rattle.tasks.specs.Sets.{Passed};
 ghost use Rattle.game.specs.States.{stateAt};
-ghost use Rattle.game.specs.Ticks.{flagged, tickOf};
-ghost use Rattle.guard.specs.Runs.{seven, countsAt, Small, Smalls, fits};
+ghost use Rattle.game.specs.Ticks.{tickOf};
+ghost use Rattle.guard.specs.Runs.{tickLimit, Room, seven, countsAt, Small, Smalls, fits};
 ghost use Rattle.guard.specs.Report.{nextReading, flagsAt, tickAt, ticked, isSuch, strays, stateAfter, countsAfter, runAfter, reportRefused, reportNamed, reportAwaited, reportOf};
 
 // What a report says of the awaited choice: whether the run job finished, and which jobs arrived.
@@ -52,13 +53,6 @@ fn refuse(r: Run, number: u8, place: u32) -> Reported
     }
 }
 
-// Both, with no branch for a caller to join.
-fn both(a: bool, b: bool) -> bool
-    ensures { λ r. ⌜ r ≡ (a && b) ⌝ }
-{
-    if a { b } else { false }
-}
-
 // The next reading, which rolls over to zero.
 fn next_reading(reading: u32) -> u32
     ensures { λ r. ⌜ r ≡ nextReading reading ⌝ }
@@ -66,15 +60,23 @@ fn next_reading(reading: u32) -> u32
     std::num::wrapping_add_u32(reading, 1)
 }
 
+// What an outcome says of task k + 1.
+fn flags_at(o: Outcome, k: usize) -> Flags
+    requires { ⌜ k < 7 ⌝ }
+    ensures { λ r. ⌜ r ≡ flagsAt o k ⌝ }
+{
+    Flags {
+        finishes: ticks::both(o.choice as usize == k + 1, o.finished),
+        arrives: entries::allows(o.arrivals, k),
+    }
+}
+
 // What the tick comes to for task k + 1.
 fn tick_at(t: Task, x: TaskState, o: Outcome, k: usize) -> Ticked
     requires { ⌜ k < 7 ⌝ }
     ensures { λ r. ⌜ r ≡ tickOf t (eqb (o .choice) (suc k)) x (flagsAt o k) ⌝ }
 {
-    let run = o.choice as usize == k + 1;
-    let finishes = both(run, o.finished);
-    let arrives = entries::allows(o.arrivals, k);
-    ticks::tick(t, run, x, finishes, arrives)
+    ticks::tick(t, o.choice as usize == k + 1, x, flags_at(o, k))
 }
 
 // For each place, worked out once.
@@ -124,7 +126,7 @@ fn is_stray(s: Set, o: Outcome) -> bool
     requires { ⌜ Passed s ⌝ }
     ensures { λ r. ⌜ r ≡ strays s o ⌝ }
 {
-    if both(o.finished, o.choice == 0) {
+    if ticks::both(o.finished, o.choice == 0) {
         return true;
     }
     (o.arrivals >> s.count) != 0
@@ -167,23 +169,23 @@ fn move_states(n: usize, xs: [TaskState; 7], ts: [Ticked; 7]) -> [TaskState; 7]
 
 // One more, if so.
 fn more(n: u32, so: bool) -> u32
-    requires { ⌜ n < 4294967295 ⌝ }
+    requires { ⌜ Room n ⌝ }
     ensures { λ r. ⌜ r ≡ n + one so ⌝ }
 {
     if so { n + 1 } else { n }
 }
 
 // The counts of a task after its tick.
-fn counts_after(x: TaskState, n: Counts, finishes: bool, arrives: bool) -> Counts
+fn counts_after(x: TaskState, n: Counts, f: Flags) -> Counts
     requires { ⌜ Small n ⌝ }
-    ensures { λ r. ⌜ r ≡ countsAfter x n (flagged finishes arrives) ⌝ }
+    ensures { λ r. ⌜ r ≡ countsAfter x n f ⌝ }
 {
     let job = x.job;
-    let still = both(runs::in_hand(job), !finishes);
-    let replaced = both(arrives, still);
+    let still = ticks::both(ticks::in_hand(job), !f.finishes);
+    let replaced = ticks::both(f.arrives, still);
     Counts {
-        arrived: more(n.arrived, arrives),
-        finished: more(n.finished, finishes),
+        arrived: more(n.arrived, f.arrives),
+        finished: more(n.finished, f.finishes),
         replaced: more(n.replaced, replaced),
     }
 }
@@ -194,9 +196,7 @@ fn counts_then(n: usize, x: TaskState, m: Counts, o: Outcome, k: usize) -> Count
     ensures { λ r. ⌜ r ≡ cond (ltb k n) (countsAfter x m (flagsAt o k)) m ⌝ }
 {
     if k < n {
-        let finishes = both(o.choice as usize == k + 1, o.finished);
-        let arrives = entries::allows(o.arrivals, k);
-        return counts_after(x, m, finishes, arrives);
+        return counts_after(x, m, flags_at(o, k));
     }
     m
 }
@@ -218,7 +218,7 @@ fn move_counts(n: usize, xs: [TaskState; 7], ns: [Counts; 7], o: Outcome) -> [Co
 
 // The run after an outcome with these ticks.
 fn move_run(s: Set, r: Run, o: Outcome, ts: [Ticked; 7]) -> Run
-    requires { ⌜ Passed s × T (fits s r) × (r .ticks < 16777216) × (ts ≡ seven (tickAt s (r .states) o)) ⌝ }
+    requires { ⌜ Passed s × T (fits s r) × (r .ticks < tickLimit) × (ts ≡ seven (tickAt s (r .states) o)) ⌝ }
     ensures { λ a. ⌜ a ≡ runAfter s r o ⌝ }
 {
     let n = s.count as usize;
@@ -238,7 +238,7 @@ fn move_run(s: Set, r: Run, o: Outcome, ts: [Ticked; 7]) -> Run
 
 // A report with the next reading: an outcome that is not possible, a miss, or the run after it.
 fn report_named(s: Set, r: Run, o: Outcome) -> Reported
-    requires { ⌜ Passed s × T (fits s r) × (r .ticks < 16777216) ⌝ }
+    requires { ⌜ Passed s × T (fits s r) × (r .ticks < tickLimit) ⌝ }
     ensures { λ a. ⌜ a ≡ reportNamed s r o ⌝ }
 {
     let n = s.count as usize;

@@ -11,8 +11,7 @@ use tasks::sets::Tested;
 ghost use mathlib.Core.Path.{_≡_};
 ghost use Prim.Native.Nat.{_<_, _≤_};
 ghost use Rattle.tasks.specs.Sets.{Passed};
-ghost use Rattle.game.specs.Ticks.{inHand};
-ghost use Rattle.guard.specs.Runs.{seven, startState, startCounts, startRun, startOf, sumHolds, taskFits, placeEmpty, placeFits, legalFor, awaitedFits, fits, awaits};
+ghost use Rattle.guard.specs.Runs.{tickLimit, seven, startState, startCounts, startRun, startOf, sumHolds, taskFits, placeEmpty, placeFits, legalFor, awaitedFits, fits, awaits};
 
 // A run counts at most so many ticks.
 pub const TICK_LIMIT: u32 = 16777216;
@@ -147,23 +146,13 @@ pub fn start(s: Set, reading: u32) -> Started
     }
 }
 
-// Whether a job is in hand.
-pub(crate) fn in_hand(job: Job) -> bool
-    ensures { λ r. ⌜ r ≡ inHand job ⌝ }
-{
-    match job {
-        Job::Empty => false,
-        Job::InHand(_) => true,
-    }
-}
-
 // Whether arrived is finished plus replaced plus the job in hand, where no sum wraps.
 fn sum_holds(x: TaskState, n: Counts) -> bool
     ensures { λ r. ⌜ r ≡ sumHolds x n ⌝ }
 {
     let job = x.job;
     let done = n.finished as u64 + n.replaced as u64;
-    if in_hand(job) {
+    if ticks::in_hand(job) {
         return n.arrived as u64 == done + 1;
     }
     n.arrived as u64 == done
@@ -171,7 +160,7 @@ fn sum_holds(x: TaskState, n: Counts) -> bool
 
 // Whether a task's place fits.
 fn task_fits(t: Task, ticks: u32, x: TaskState, n: Counts) -> bool
-    requires { ⌜ ticks ≤ 16777216 ⌝ }
+    requires { ⌜ ticks ≤ tickLimit ⌝ }
     ensures { λ r. ⌜ r ≡ taskFits t ticks x n ⌝ }
 {
     if !states::in_range(t, x) {
@@ -194,7 +183,7 @@ fn is_empty(x: TaskState, n: Counts) -> bool
         return false;
     }
     let job = x.job;
-    if in_hand(job) {
+    if ticks::in_hand(job) {
         return false;
     }
     if n.arrived != 0 {
@@ -208,7 +197,7 @@ fn is_empty(x: TaskState, n: Counts) -> bool
 
 // Whether the place of task k + 1 fits.
 fn place_fits(s: Set, r: Run, k: usize) -> bool
-    requires { ⌜ (k < 7) × (r .ticks ≤ 16777216) ⌝ }
+    requires { ⌜ (k < 7) × (r .ticks ≤ tickLimit) ⌝ }
     ensures { λ b. ⌜ b ≡ placeFits s r k ⌝ }
 {
     let x = r.states[k];
@@ -238,7 +227,7 @@ pub(crate) fn is_legal(s: Set, xs: [TaskState; 7], choice: usize) -> bool
 
 // Whether what is awaited fits.
 fn awaited_fits(s: Set, r: Run, awaited: Awaited) -> bool
-    requires { ⌜ Passed s × (r .ticks ≤ 16777216) ⌝ }
+    requires { ⌜ Passed s × (r .ticks ≤ tickLimit) ⌝ }
     ensures { λ b. ⌜ b ≡ awaitedFits s r awaited ⌝ }
 {
     match awaited {

@@ -1,7 +1,6 @@
--- Safe runs with the table that the builder made, and with one that a file hands back. Assumes nothing.
-use mathlib.Core.Path.{_≡_}
+-- Safe runs with the table that the builder made, and with the part that a file hands back. Assumes nothing.
 use mathlib.Core.List.{List}
-use Prim.Native.Nat.{ℕ, _≤_, _<_}
+use Prim.Native.Nat.{ℕ}
 use Rattle.tasks.specs.declared.sets.Set.{Set}
 use Rattle.shield.specs.declared.builder.Built.{Built}
 use Rattle.tasks.specs.Sets.{statesOf}
@@ -10,26 +9,20 @@ use Rattle.shield.specs.Build.{Builds}
 use Rattle.table_file.specs.Open.{handed}
 use Rattle.table_file.proofs.Trips.{Opens, handed-passes}
 use Rattle.promises.proofs.Shield.{Answered, built-bytes, built-passes}
-use Rattle.guard.specs.declared.runs.Awaited.the-variants.{Nothing}
-use Rattle.guard.specs.declared.asks.Chosen.the-variants.{Choice}
-use Rattle.guard.specs.Runs.{tickLimit}
-use Rattle.guard.specs.Ask.{askOf}
-use Rattle.guard.specs.Calls.{Call, saidBy, reached}
-use Rattle.safe_runs.proofs.Safe.{Clean, safe-runs, safe-answers}
+use Rattle.safe_runs.proofs.Safe.{SafeRuns, SafeAnswers, safe-runs, safe-answers}
 
--- a call of the builder that refuses nothing
+-- the table of a builder that refuses nothing
 module _ (s : Set) (t w t′ w′ : List ℕ) (r : Built) (B : Builds s t w r t′ w′) (a : Answered r) where
-  -- no call of a run with its table is refused with 16, 19 or 21
-  pub built-runs : (reading : ℕ) (cs : List Call) (c : Call) → Clean (saidBy s t′ (reached s t′ reading cs) c)
+  pub built-runs : SafeRuns s t′
   built-runs = safe-runs s t′ (built-bytes s t w t′ w′ r B a) (built-passes s t w t′ w′ r B a)
 
-  -- and every ask is answered, up to the tick limit
-  pub built-answers : (reading : ℕ) (cs : List Call) (p : ℕ) → p ≤ s .count
-      → reached s t′ reading cs .awaited ≡ Nothing → reached s t′ reading cs .ticks < tickLimit
-      → (c : ℕ) × (askOf s t′ (reached s t′ reading cs) p .answer ≡ Choice c)
+  pub built-answers : SafeAnswers s t′
   built-answers = safe-answers s t′ (built-bytes s t w t′ w′ r B a) (built-passes s t w t′ w′ r B a)
 
--- and for the part that a file hands back
-pub opened-runs : (s : Set) (file : List ℕ) → Opens s file → Bytes (statesOf s) (handed s file)
-    → (reading : ℕ) (cs : List Call) (c : Call) → Clean (saidBy s (handed s file) (reached s (handed s file) reading cs) c)
-opened-runs s file o b = safe-runs s (handed s file) b (handed-passes s file o)
+-- the part that a file hands back
+module _ (s : Set) (file : List ℕ) (o : Opens s file) (b : Bytes (statesOf s) (handed s file)) where
+  pub opened-runs : SafeRuns s (handed s file)
+  opened-runs = safe-runs s (handed s file) b (handed-passes s file o)
+
+  pub opened-answers : SafeAnswers s (handed s file)
+  opened-answers = safe-answers s (handed s file) b (handed-passes s file o)

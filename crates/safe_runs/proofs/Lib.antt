@@ -1,7 +1,12 @@
 pub mod Guarded
 pub mod TickSums
+pub mod Cases
+pub mod Fitting
 pub mod Keeps
+pub mod Numbers
 pub mod Named
+pub mod Told
 pub mod Moves
+pub mod Good
 pub mod Safe
 pub mod Built

@@ -14,7 +14,8 @@ use Rattle.game.specs.declared.states.Job.the-variants.{Empty, InHand}
 use Rattle.game.specs.declared.states.TaskState.{TaskState}
 use Rattle.game.specs.declared.ticks.Ticked.{Ticked}
 use Rattle.game.specs.declared.ticks.Ticked.the-variants.{Impossible, Missed, Next}
-use Rattle.game.specs.Ticks.{Flags, inHand, canFinish, can, jobAfter, late, arrived, tickOf}
+use Rattle.game.specs.declared.ticks.Flags.{Flags}
+use Rattle.game.specs.Ticks.{inHand, canFinish, can, jobAfter, late, arrived, tickOf}
 use Rattle.game.proofs.Sound.{ranged, tick-range, possible}
 use Rattle.guard.specs.declared.runs.Counts.{Counts}
 use Rattle.guard.specs.Report.{isSuch, countsAfter, stateAfter}
@@ -29,9 +30,16 @@ module _ (τ : Task) (run : Bool) (x : TaskState) (f : Flags) where
   unfolding tickOf
   by-can b e = ap (λ b. cond b (cond (late τ (x .age + 1) (jobAfter run (f .finishes) (x .job))) Missed (Next then)) Impossible) e
 
-  -- a tick is possible if the generator can decide so
+  -- a tick is possible exactly if the generator can decide so
   pub tick-can : isSuch false (tickOf τ run x f) ≡ false → T (can τ run x f)
   tick-can e = ⊎-elim (λ t. t) (λ t. let q = sym (ap (isSuch false) (by-can false (T-false _ t))) ∙ e in absurd (subst T q tt)) (decide (can τ run x f))
+
+  pub tick-possible : T (can τ run x f) → isSuch false (tickOf τ run x f) ≡ false
+  tick-possible t = ap (isSuch false) (by-can true (T-true _ t)) ∙ judged (late τ (x .age + 1) (jobAfter run (f .finishes) (x .job)))
+    where
+      judged : (b : Bool) → isSuch false (cond b Missed (Next then)) ≡ false
+      judged true = refl
+      judged false = refl
 
   -- one that is no miss leads to that state
   pub tick-next : isSuch false (tickOf τ run x f) ≡ false → isSuch true (tickOf τ run x f) ≡ false → tickOf τ run x f ≡ Next then

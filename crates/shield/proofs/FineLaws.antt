@@ -3,14 +3,14 @@ use mathlib.Core.Path.{_≡_, refl, sym, ap, subst, _∙_}
 use mathlib.Core.Logic.{⊎-elim}
 use mathlib.Core.Bool.{Bool, true, false, not, _&&_}
 use mathlib.Core.List.{List}
-use Prim.Native.Nat.{ℕ, zero, suc, _+_, _-_, _*_, _^_, _≤_, _<_}
+use Prim.Native.Nat.{ℕ, zero, suc, _+_, _*_, _^_, _≤_, _<_}
 use native.Mathlib.Nat.{zero-div, pow-suc}
 use native.Mathlib.Numerals.{add-one}
 use native.Mathlib.Omega.{arith}
 use lib.Dec.{T, eqb, ltb, eqb→eq, ltb→lt, nltb→le}
 use lib.ListN.{getD}
 use lib.Pow.{pow-mono}
-use borrow.Author.Tests.{lt-ltb, le-ltb}
+use borrow.Author.Tests.{le-ltb}
 use Rattle.arena.specs.Tests.{one, count}
 use Rattle.arena.specs.Arena.{fine}
 use Rattle.arena.proofs.Tests.{and-left, and-right, decide}
@@ -26,19 +26,6 @@ use Rattle.shield.specs.Shield.{legalIn, fineIn, nextEntry}
 use Rattle.shield.proofs.EntryLaws.{marks-lt, marks-cong}
 
 module _ (s : Set) (d : List ℕ) where
-  pub legal-none : (c : ℕ) → s .count < c → legalIn s d c ≡ false
-  unfolding legalIn
-  legal-none zero h = let z : ⊥ = omega arith in absurd z
-  legal-none (suc k) h = ap (λ b. b && runnable (taskAt s k) (stateOf (taskAt s k) (getD d k 0))) (le-ltb k (s .count) (omega arith))
-
-  pub legal-task : (c : ℕ) → (c ≡ 0 → ⊥) → c ≤ s .count → legalIn s d c ≡ runnable (taskAt s (c - 1)) (stateOf (taskAt s (c - 1)) (getD d (c - 1) 0))
-  unfolding legalIn
-  legal-task zero q h = absurd (q refl)
-  legal-task (suc k) q h =
-      let e : suc k - 1 ≡ k = omega arith in
-      ap (λ b. b && runnable (taskAt s k) (stateOf (taskAt s k) (getD d k 0))) (lt-ltb k (s .count) h)
-      ∙ ap (λ (n : ℕ). runnable (taskAt s n) (stateOf (taskAt s n) (getD d n 0))) (sym e)
-
   -- a legal choice runs a task with its job in hand
   pub legal-hand : (c : ℕ) → T (legalIn s d c) → (j : ℕ) → T (eqb c (suc j)) → T (inHand (stateOf (taskAt s j) (getD d j 0) .job))
   unfolding legalIn runnable

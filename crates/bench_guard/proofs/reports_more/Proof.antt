@@ -10,53 +10,11 @@ Inv-loop s end bits n total₀ q₀ j₀ total q j = j ≤ n
 abbrev μ-loop : tie.MeasureT-loop
 μ-loop s end bits n total₀ q₀ j₀ total q j = n - j
 
-loop-holds : tie.Need-loop-holds Inv-loop μ-loop
-loop-holds c = search needs
-
-cast-q : tie.Need-cast-q Inv-loop μ-loop
-cast-q c = search needs
-
-cast-report : tie.Need-cast-report Inv-loop μ-loop
-cast-report c = search needs
-
-add-report : tie.Need-add-report Inv-loop μ-loop
-add-report c = search needs
-
-report-requires : tie.Need-report-requires Inv-loop μ-loop
-report-requires c κs = search needs
-
-of-reported-requires : tie.Need-of-reported-requires Inv-loop μ-loop
-of-reported-requires c κs = search needs
-
-sum-requires : tie.Need-sum-requires Inv-loop μ-loop
-sum-requires c κs = search needs
-
-add-j : tie.Need-add-j Inv-loop μ-loop
-add-j c = search needs
-
-loop-less : tie.Need-loop-less Inv-loop μ-loop
-loop-less c = search needs
-
-loop-again : tie.Need-loop-again Inv-loop μ-loop
-loop-again c = search needs
-
-returns : tie.Need-returns Inv-loop μ-loop
-returns c = search needs
-
 pub reports-more-spec : {M : Type 1} → statement M
 reports-more-spec =
     tie.close
     (tie.spec
-    Inv-loop
-    μ-loop
-    loop-holds
-    cast-q
-    cast-report
-    add-report
-    report-requires
-    of-reported-requires
-    sum-requires
-    add-j
-    loop-less
-    loop-again
-    returns)
+    Inv-loop μ-loop
+    (λ c. search needs) (λ c. search needs) (λ c. search needs) (λ c. search needs) (λ c κs. search needs)
+    (λ c κs. search needs) (λ c κs. search needs) (λ c. search needs) (λ c. search needs) (λ c. search needs)
+    (λ c. search needs))

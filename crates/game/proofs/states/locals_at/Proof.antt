@@ -24,21 +24,6 @@ loop-holds : tie.Need-loop-holds Inv-loop μ-loop
 unfolding statesTo
 loop-holds c = (omega arith, passed-valid (c .args .t1) (c .pre), refl, sym (div-one (c .args .i)), below-none _, λ j _ h. getD-replicate 7 j 0 0 h)
 
-cast-loop : tie.Need-cast-loop Inv-loop μ-loop
-cast-loop c = search needs
-
-mul-t : tie.Need-mul-t Inv-loop μ-loop
-mul-t c = search needs
-
-element-copy-out-t : tie.Need-element-copy-out-t Inv-loop μ-loop
-element-copy-out-t c = search needs
-
-locals-requires : tie.Need-locals-requires Inv-loop μ-loop
-locals-requires c κs = search needs
-
-cast-n : tie.Need-cast-n Inv-loop μ-loop
-cast-n c = search needs
-
 pos : (c : tie.After-locals Inv-loop μ-loop) → 0 < c .locals .result
 pos c = let l = c .before .before .before .loop in
     omega (arith, locals-pos _ (l .inv .1 .tasks (l .k) (c .before .before .loop-test .taken)), c .locals .ensures .0)
@@ -49,20 +34,8 @@ rem-d c = pos c
 cast-d : tie.Need-cast-d Inv-loop μ-loop
 cast-d c = record { fits = le-trans (mod-lt _ (pos c)) (omega arith) }
 
-mul-d : tie.Need-mul-d Inv-loop μ-loop
-mul-d c = search needs
-
-array-write-d : tie.Need-array-write-d Inv-loop μ-loop
-array-write-d c = search needs
-
 div-rest : tie.Need-div-rest Inv-loop μ-loop
 div-rest c = pos c
-
-add-k : tie.Need-add-k Inv-loop μ-loop
-add-k c = search needs
-
-loop-less : tie.Need-loop-less Inv-loop μ-loop
-loop-less c = search needs
 
 loop-again : tie.Need-loop-again Inv-loop μ-loop
 loop-again c = let l = c .before .before .before .loop in
@@ -84,20 +57,13 @@ pub locals-at-spec : {M : Type 1} → statement M
 locals-at-spec =
     tie.close
     (tie.spec
-    Inv-loop
-    μ-loop
+    Inv-loop μ-loop
     loop-holds
-    cast-loop
-    mul-t
-    element-copy-out-t
-    locals-requires
-    cast-n
+    (λ c. search needs) (λ c. search needs) (λ c. search needs) (λ c κs. search needs) (λ c. search needs)
     rem-d
     cast-d
-    mul-d
-    array-write-d
+    (λ c. search needs) (λ c. search needs)
     div-rest
-    add-k
-    loop-less
+    (λ c. search needs) (λ c. search needs)
     loop-again
     returns)

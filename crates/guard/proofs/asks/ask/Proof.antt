@@ -7,21 +7,6 @@ use Rattle.tasks.proofs.Valid.{passed, valid}
 use Rattle.guard.proofs.asks.ask.Statement.{statement}
 use Rattle.guard.proofs.asks.ask.Tie as tie
 
-test-requires : tie.Need-test-requires
-test-requires c κs = search needs
-
-enum-known-tested : tie.Need-enum-known-tested
-enum-known-tested c = search needs
-
-enum-known-tested-2 : tie.Need-enum-known-tested-2
-enum-known-tested-2 c = search needs
-
-cast-if1 : tie.Need-cast-if1
-cast-if1 c = search needs
-
-refuse-requires : tie.Need-refuse-requires
-refuse-requires c κs = search needs
-
 returns : tie.Need-returns
 returns c = c .refuse .ensures ∙ simp (sym (c .before .before .before .before .before .test .ensures) ∙ c .before .before .before .tested2 .given .1, lt-ltb _ _ (c .before .if1 .taken))
 
@@ -40,11 +25,7 @@ pub ask-spec : {M : Type 1} → statement M
 ask-spec =
     tie.close
     (tie.spec
-    test-requires
-    enum-known-tested
-    enum-known-tested-2
-    cast-if1
-    refuse-requires
+    (λ c κs. search needs) (λ c. search needs) (λ c. search needs) (λ c. search needs) (λ c κs. search needs)
     returns
     ask-fits-requires
     returns-2

@@ -13,27 +13,15 @@ use Rattle.guard.proofs.asks.ask_entry.Tie as tie
 w : (b : tie.Start) → Fits (b .args .s) (b .args .r)
 w b = fits-at _ _ (passed-valid (b .args .s) (b .pre .0) .count .1) (b .pre .2)
 
-index-of-requires : tie.Need-index-of-requires
-index-of-requires c κs = search needs
-
 shared-slice-read-entry : tie.Need-shared-slice-read-entry
 shared-slice-read-entry c = let b = c .before .before .before .before in omega (arith, b .pre .1, c .before .index-of .ensures, index-fits _ _ (w b))
-
-serves-state-requires : tie.Need-serves-state-requires
-serves-state-requires c κs = search needs
 
 cast-refuse : tie.Need-cast-refuse
 cast-refuse c = let b = c .before .before .before .before .before .before in record { fits = omega (arith, passed-valid (b .args .s) (b .pre .0) .states, c .before .before .before .index-of .ensures, index-fits _ _ (w b)) }
 
-refuse-requires : tie.Need-refuse-requires
-refuse-requires c κs = search needs
-
 returns : tie.Need-returns
 returns c = let a = c .before .before .before .before .before .before .before .args in
     c .refuse .ensures ∙ entry-bad (a .s) (a .table .now) (a .r) (a .proposal) _ (c .before .before .before .before .index-of .ensures) (sym (c .before .before .serves-state .ensures) ∙ not-true _ (c .before .if1 .taken))
-
-choose-requires : tie.Need-choose-requires
-choose-requires c κs = search needs
 
 give-requires : tie.Need-give-requires
 give-requires c κs = small-substitutions _ _ (w (c .before .before .before .before .before .before .before))
@@ -46,12 +34,12 @@ pub ask-entry-spec : {M : Type 1} → statement M
 ask-entry-spec =
     tie.close
     (tie.spec
-    index-of-requires
+    (λ c κs. search needs)
     shared-slice-read-entry
-    serves-state-requires
+    (λ c κs. search needs)
     cast-refuse
-    refuse-requires
+    (λ c κs. search needs)
     returns
-    choose-requires
+    (λ c κs. search needs)
     give-requires
     returns-2)

@@ -9,35 +9,17 @@ use Rattle.guard.specs.Ask.{askFits}
 use Rattle.guard.proofs.asks.ask_fits.Statement.{statement}
 use Rattle.guard.proofs.asks.ask_fits.Tie as tie
 
-fits-set-requires : tie.Need-fits-set-requires
-fits-set-requires c κs = search needs
-
-refuse-requires : tie.Need-refuse-requires
-refuse-requires c κs = search needs
-
 returns : tie.Need-returns
 unfolding askFits
 returns c = c .refuse .ensures ∙ simp (sym (c .before .before .fits-set .ensures) ∙ not-true _ (c .before .if1 .taken))
-
-is-awaited-requires : tie.Need-is-awaited-requires
-is-awaited-requires c κs = search needs
-
-refuse-requires-2 : tie.Need-refuse-requires-2
-refuse-requires-2 c κs = search needs
 
 returns-2 : tie.Need-returns-2
 unfolding askFits
 returns-2 c = c .refuse2 .ensures ∙ simp (sym (c .before .before .before .before .fits-set .ensures) ∙ not-false _ (c .before .before .before .if1 .left), sym (c .before .before .is-awaited .ensures) ∙ c .before .if2 .taken)
 
-refuse-requires-3 : tie.Need-refuse-requires-3
-refuse-requires-3 c κs = search needs
-
 returns-3 : tie.Need-returns-3
 unfolding askFits
 returns-3 c = c .refuse3 .ensures ∙ simp (sym (c .before .before .before .before .before .before .fits-set .ensures) ∙ not-false _ (c .before .before .before .before .before .if1 .left), sym (c .before .before .before .before .is-awaited .ensures) ∙ c .before .before .before .if2 .left, eq-eqb _ _ (c .before .if3 .taken))
-
-refuse-requires-4 : tie.Need-refuse-requires-4
-refuse-requires-4 c κs = search needs
 
 returns-4 : tie.Need-returns-4
 unfolding askFits
@@ -54,15 +36,13 @@ pub ask-fits-spec : {M : Type 1} → statement M
 ask-fits-spec =
     tie.close
     (tie.spec
-    fits-set-requires
-    refuse-requires
+    (λ c κs. search needs) (λ c κs. search needs)
     returns
-    is-awaited-requires
-    refuse-requires-2
+    (λ c κs. search needs) (λ c κs. search needs)
     returns-2
-    refuse-requires-3
+    (λ c κs. search needs)
     returns-3
-    refuse-requires-4
+    (λ c κs. search needs)
     returns-4
     ask-entry-requires
     returns-5)

@@ -5,9 +5,6 @@ use Rattle.guard.specs.Ask.{askGiven}
 use Rattle.guard.proofs.asks.give.Statement.{statement}
 use Rattle.guard.proofs.asks.give.Tie as tie
 
-add-n : tie.Need-add-n
-add-n c = search needs
-
 returns : tie.Need-returns
 unfolding askGiven
 returns c = simp (ne-eqb _ _ (c .if1 .taken))
@@ -17,5 +14,4 @@ unfolding askGiven
 returns-2 c = simp (eq-eqb _ _ (c .if1 .left))
 
 pub give-spec : {M : Type 1} → statement M
-give-spec =
-    tie.close (tie.spec add-n returns returns-2)
+give-spec = tie.close (tie.spec (λ c. search needs) returns returns-2)

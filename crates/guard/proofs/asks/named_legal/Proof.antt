@@ -5,18 +5,11 @@ use mathlib.Core.Path.{sym, _∙_}
 use Rattle.guard.proofs.asks.named_legal.Statement.{statement}
 use Rattle.guard.proofs.asks.named_legal.Tie as tie
 
-allows-requires : tie.Need-allows-requires
-allows-requires c κs = search needs
-
 returns : tie.Need-returns
 returns c = simp (sym (c .before .allows .ensures) ∙ not-true _ (c .if1 .taken))
-
-is-legal-requires : tie.Need-is-legal-requires
-is-legal-requires c κs = search needs
 
 returns-2 : tie.Need-returns-2
 returns-2 c = c .is-legal .ensures ∙ simp (sym (c .before .before .allows .ensures) ∙ not-false _ (c .before .if1 .left))
 
 pub named-legal-spec : {M : Type 1} → statement M
-named-legal-spec =
-    tie.close (tie.spec allows-requires returns is-legal-requires returns-2)
+named-legal-spec = tie.close (tie.spec (λ c κs. search needs) returns (λ c κs. search needs) returns-2)

@@ -24,18 +24,9 @@ returns c = sym (serves-none _ _ _ (c .if1 .taken))
 loop-holds : tie.Need-loop-holds Inv-loop μ-loop
 loop-holds c = (omega arith, below-none _)
 
-named-legal-requires : tie.Need-named-legal-requires Inv-loop μ-loop
-named-legal-requires c κs = search needs
-
 returns-2 : tie.Need-returns-2 Inv-loop μ-loop
 returns-2 c = let a = c .before .before .before .before .before .args in
     sym (serves-some (a .s) (a .xs) (a .entry) (c .before .before .before .before .if1 .left) ∙ all-fails 8 (servesFor (a .s) (a .xs) (a .entry)) (c .before .before .before .loop .choice) (c .before .before .loop-test .taken) (sym (c .before .named-legal .ensures) ∙ not-true _ (c .if2 .taken)))
-
-add-choice : tie.Need-add-choice Inv-loop μ-loop
-add-choice c = search needs
-
-loop-less : tie.Need-loop-less Inv-loop μ-loop
-loop-less c = search needs
 
 loop-again : tie.Need-loop-again Inv-loop μ-loop
 loop-again c = let a = c .before .before .before .before .before .args in
@@ -49,13 +40,11 @@ pub serves-state-spec : {M : Type 1} → statement M
 serves-state-spec =
     tie.close
     (tie.spec
-    Inv-loop
-    μ-loop
+    Inv-loop μ-loop
     returns
     loop-holds
-    named-legal-requires
+    (λ c κs. search needs)
     returns-2
-    add-choice
-    loop-less
+    (λ c. search needs) (λ c. search needs)
     loop-again
     returns-3)

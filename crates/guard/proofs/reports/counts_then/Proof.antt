@@ -2,31 +2,14 @@
 use borrow.Author.Needs.{needs}
 use borrow.Author.Tests.{lt-ltb, le-ltb}
 use mathlib.Core.Path.{_∙_}
-use native.Mathlib.Numerals.{add-one}
 use Rattle.guard.proofs.reports.counts_then.Statement.{statement}
 use Rattle.guard.proofs.reports.counts_then.Tie as tie
 
-cast-both : tie.Need-cast-both
-cast-both c = search needs
-
-add-both : tie.Need-add-both
-add-both c = search needs
-
-both-requires : tie.Need-both-requires
-both-requires c κs = search needs
-
-allows-requires : tie.Need-allows-requires
-allows-requires c κs = search needs
-
-counts-after-requires : tie.Need-counts-after-requires
-counts-after-requires c κs = search needs
-
 returns : tie.Need-returns
-returns c = c .counts-after .ensures ∙ simp (c .before .allows .ensures, c .before .before .both .ensures, add-one, lt-ltb _ _ (c .before .before .before .before .if1 .taken))
+returns c = c .counts-after .ensures ∙ simp (c .before .flags-at .ensures, lt-ltb _ _ (c .before .before .if1 .taken))
 
 returns-2 : tie.Need-returns-2
 returns-2 c = simp (le-ltb _ _ (c .if1 .left))
 
 pub counts-then-spec : {M : Type 1} → statement M
-counts-then-spec =
-    tie.close (tie.spec cast-both add-both both-requires allows-requires counts-after-requires returns returns-2)
+counts-then-spec = tie.close (tie.spec (λ c κs. search needs) (λ c κs. search needs) returns returns-2)

@@ -20,24 +20,9 @@ loop-holds c = let a = c .args in
     let e : a .n ≡ a .n - 0 = omega arith in
     (omega arith, c .pre, ap (λ n. first (λ k. isSuch (a .missed) (ticked (a .t1) k)) n 0) e)
 
-mul-t : tie.Need-mul-t Inv-loop μ-loop
-mul-t c = search needs
-
-array-copy-out-t : tie.Need-array-copy-out-t Inv-loop μ-loop
-array-copy-out-t c = search needs
-
-is-such-requires : tie.Need-is-such-requires Inv-loop μ-loop
-is-such-requires c κs = search needs
-
 returns : tie.Need-returns Inv-loop μ-loop
 returns c = let b = c .before .before .before .before in let a = b .before .args in
     sym (b .loop .inv .2 ∙ first-here (λ k. isSuch (a .missed) (ticked (a .t1) k)) (a .n) (b .loop .k) (c .before .before .before .loop-test .taken) (sym (c .before .is-such .ensures) ∙ c .if1 .taken))
-
-add-k : tie.Need-add-k Inv-loop μ-loop
-add-k c = search needs
-
-loop-less : tie.Need-loop-less Inv-loop μ-loop
-loop-less c = search needs
 
 loop-again : tie.Need-loop-again Inv-loop μ-loop
 loop-again c = let b = c .before .before .before .before in let a = b .before .args in
@@ -52,14 +37,10 @@ pub first-such-spec : {M : Type 1} → statement M
 first-such-spec =
     tie.close
     (tie.spec
-    Inv-loop
-    μ-loop
+    Inv-loop μ-loop
     loop-holds
-    mul-t
-    array-copy-out-t
-    is-such-requires
+    (λ c. search needs) (λ c. search needs) (λ c κs. search needs)
     returns
-    add-k
-    loop-less
+    (λ c. search needs) (λ c. search needs)
     loop-again
     returns-2)

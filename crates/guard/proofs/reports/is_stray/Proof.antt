@@ -7,9 +7,6 @@ use Rattle.guard.specs.Report.{strays}
 use Rattle.guard.proofs.reports.is_stray.Statement.{statement}
 use Rattle.guard.proofs.reports.is_stray.Tie as tie
 
-both-requires : tie.Need-both-requires
-both-requires c κs = search needs
-
 returns : tie.Need-returns
 unfolding strays
 returns c = simp (sym (c .before .both .ensures) ∙ c .if1 .taken)
@@ -22,5 +19,4 @@ unfolding strays
 returns-2 c = simp (sym (c .before .before .before .both .ensures) ∙ c .before .before .if1 .left)
 
 pub is-stray-spec : {M : Type 1} → statement M
-is-stray-spec =
-    tie.close (tie.spec both-requires returns shr-result returns-2)
+is-stray-spec = tie.close (tie.spec (λ c κs. search needs) returns shr-result returns-2)

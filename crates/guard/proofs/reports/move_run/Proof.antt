@@ -9,20 +9,8 @@ use Rattle.guard.proofs.reports.move_run.Tie as tie
 w : (b : tie.Start) → Fits (b .args .s) (b .args .r)
 w b = fits-at _ _ (passed-valid (b .args .s) (b .pre .0) .count .1) (b .pre .1)
 
-cast-n : tie.Need-cast-n
-cast-n c = search needs
-
-move-states-requires : tie.Need-move-states-requires
-move-states-requires c κs = search needs
-
 move-counts-requires : tie.Need-move-counts-requires
 move-counts-requires c κs = small-counts _ _ (w (c .before .before .before .before))
-
-add-t10 : tie.Need-add-t10
-add-t10 c = search needs
-
-next-reading-requires : tie.Need-next-reading-requires
-next-reading-requires c κs = search needs
 
 returns : tie.Need-returns
 unfolding runAfter stateThen countsThen
@@ -31,4 +19,9 @@ returns c = let b = c .before .before in
 
 pub move-run-spec : {M : Type 1} → statement M
 move-run-spec =
-    tie.close (tie.spec cast-n move-states-requires move-counts-requires add-t10 next-reading-requires returns)
+    tie.close
+    (tie.spec
+    (λ c. search needs) (λ c κs. search needs)
+    move-counts-requires
+    (λ c. search needs) (λ c κs. search needs)
+    returns)

@@ -7,20 +7,8 @@ use Rattle.tasks.proofs.Valid.{passed}
 use Rattle.guard.proofs.reports.report.Statement.{statement}
 use Rattle.guard.proofs.reports.report.Tie as tie
 
-test-requires : tie.Need-test-requires
-test-requires c κs = search needs
-
-enum-known-tested : tie.Need-enum-known-tested
-enum-known-tested c = search needs
-
-enum-told : tie.Need-enum-told
-enum-told c = search needs
-
 fits-set-requires : tie.Need-fits-set-requires
 fits-set-requires c κs = passed (c .before .before .before .args .s) _ (sym (c .before .before .test .ensures) ∙ c .enum-told .given .1)
-
-refuse-requires : tie.Need-refuse-requires
-refuse-requires c κs = search needs
 
 returns : tie.Need-returns
 returns c = c .refuse .ensures ∙ simp (sym (c .before .before .before .before .before .test .ensures) ∙ c .before .before .before .enum-told .given .1, sym (c .before .before .fits-set .ensures) ∙ not-true _ (c .before .if1 .taken))
@@ -38,11 +26,9 @@ pub report-spec : {M : Type 1} → statement M
 report-spec =
     tie.close
     (tie.spec
-    test-requires
-    enum-known-tested
-    enum-told
+    (λ c κs. search needs) (λ c. search needs) (λ c. search needs)
     fits-set-requires
-    refuse-requires
+    (λ c κs. search needs)
     returns
     report-awaited-requires
     returns-2

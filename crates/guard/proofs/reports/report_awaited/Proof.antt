@@ -11,21 +11,6 @@ use Rattle.guard.proofs.reports.report_awaited.Tie as tie
 w : (b : tie.Start) → Fits (b .args .s) (b .args .r)
 w b = fits-at _ _ (passed-valid (b .args .s) (b .pre .0) .count .1) (b .pre .1)
 
-enum-told : tie.Need-enum-told
-enum-told c = search needs
-
-refuse-requires : tie.Need-refuse-requires
-refuse-requires c κs = search needs
-
-enum-known-awaited : tie.Need-enum-known-awaited
-enum-known-awaited c = search needs
-
-next-reading-requires : tie.Need-next-reading-requires
-next-reading-requires c κs = search needs
-
-refuse-requires-2 : tie.Need-refuse-requires-2
-refuse-requires-2 c κs = search needs
-
 returns : tie.Need-returns
 returns c = let a = c .before .before .before .before .before .before .args in
     c .refuse2 .ensures ∙ simp (c .before .before .before .before .awaited .given .1, ne-eqb (a .reading) (nextReading (a .r .reading)) (λ q. c .before .if1 .taken (q ∙ sym (c .before .before .next-reading .ensures))))
@@ -44,11 +29,7 @@ pub report-awaited-spec : {M : Type 1} → statement M
 report-awaited-spec =
     tie.close
     (tie.spec
-    enum-told
-    refuse-requires
-    enum-known-awaited
-    next-reading-requires
-    refuse-requires-2
+    (λ c. search needs) (λ c κs. search needs) (λ c. search needs) (λ c κs. search needs) (λ c κs. search needs)
     returns
     report-named-requires
     returns-2

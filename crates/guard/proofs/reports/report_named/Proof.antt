@@ -26,30 +26,15 @@ such : (s : Set) → Passed s → (xs : List TaskState) (o : Outcome) (ts : List
 such s p xs o ts missed m e h =
     sym (h ∙ ap (λ (ts : List Ticked). first (λ k. isSuch missed (ticked ts k)) (s .count) 0) e ∙ seven-first Impossible (tickAt s xs o) (isSuch missed) (s .count) (passed-valid s p .count .1))
 
-cast-n : tie.Need-cast-n
-cast-n c = search needs
-
-is-stray-requires : tie.Need-is-stray-requires
-is-stray-requires c κs = search needs
-
-refuse-requires : tie.Need-refuse-requires
-refuse-requires c κs = search needs
-
 returns : tie.Need-returns
 unfolding reportNamed impossible
 returns c = c .refuse .ensures ∙ simp (sym (c .before .before .is-stray .ensures) ∙ c .before .if1 .taken)
-
-tick-all-requires : tie.Need-tick-all-requires
-tick-all-requires c κs = search needs
 
 abbrev entered : tie.After-tick-all → tie.Start
 entered t = t .before .before .before .before .before
 
 first-such-requires : tie.Need-first-such-requires
 first-such-requires c κs = let b = entered c in passed-valid (b .args .s) (b .pre .0) .count .1
-
-refuse-requires-2 : tie.Need-refuse-requires-2
-refuse-requires-2 c κs = search needs
 
 -- not stray, and the first tick that is not possible
 lowest : (c : tie.After-first-such) → firstSuch (entered (c .before) .args .s) (entered (c .before) .args .r .states) (entered (c .before) .args .o) false ≡ c .first-such .result
@@ -63,15 +48,6 @@ returns-2 c = let f = c .before .before in let t = f .before in
 first-such-requires-2 : tie.Need-first-such-requires-2
 first-such-requires-2 c κs = let b = entered (c .before .before) in passed-valid (b .args .s) (b .pre .0) .count .1
 
-add-refuse : tie.Need-add-refuse
-add-refuse c = search needs
-
-cast-refuse : tie.Need-cast-refuse
-cast-refuse c = search needs
-
-refuse-requires-3 : tie.Need-refuse-requires-3
-refuse-requires-3 c κs = search needs
-
 missing : (c : tie.After-first-such2) → let b = entered (c .before .before .before) in firstSuch (b .args .s) (b .args .r .states) (b .args .o) true ≡ c .first-such2 .result
 missing c = let t = c .before .before .before in let b = entered t in such (b .args .s) (b .pre .0) _ (b .args .o) _ _ _ (t .tick-all .ensures) (c .first-such2 .ensures)
 
@@ -79,9 +55,6 @@ returns-3 : tie.Need-returns-3
 unfolding reportNamed impossible
 returns-3 c = let m = c .before .before in let f = m .before .before in let t = f .before in
     c .refuse3 .ensures ∙ simp (sym (t .before .before .is-stray .ensures) ∙ t .before .if1 .left, lowest f, le-ltb _ _ (m .before .if2 .left), missing m, lt-ltb _ _ (c .before .if3 .taken), add-one)
-
-move-run-requires : tie.Need-move-run-requires
-move-run-requires c κs = search needs
 
 returns-4 : tie.Need-returns-4
 unfolding reportNamed impossible
@@ -92,18 +65,14 @@ pub report-named-spec : {M : Type 1} → statement M
 report-named-spec =
     tie.close
     (tie.spec
-    cast-n
-    is-stray-requires
-    refuse-requires
+    (λ c. search needs) (λ c κs. search needs) (λ c κs. search needs)
     returns
-    tick-all-requires
+    (λ c κs. search needs)
     first-such-requires
-    refuse-requires-2
+    (λ c κs. search needs)
     returns-2
     first-such-requires-2
-    add-refuse
-    cast-refuse
-    refuse-requires-3
+    (λ c. search needs) (λ c. search needs) (λ c κs. search needs)
     returns-3
-    move-run-requires
+    (λ c κs. search needs)
     returns-4)

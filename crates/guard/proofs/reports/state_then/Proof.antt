@@ -5,9 +5,6 @@ use mathlib.Core.Path.{_∙_}
 use Rattle.guard.proofs.reports.state_then.Statement.{statement}
 use Rattle.guard.proofs.reports.state_then.Tie as tie
 
-state-after-requires : tie.Need-state-after-requires
-state-after-requires c κs = search needs
-
 returns : tie.Need-returns
 returns c = c .state-after .ensures ∙ simp (lt-ltb _ _ (c .before .if1 .taken))
 
@@ -15,4 +12,4 @@ returns-2 : tie.Need-returns-2
 returns-2 c = simp (le-ltb _ _ (c .if1 .left))
 
 pub state-then-spec : {M : Type 1} → statement M
-state-then-spec = tie.close (tie.spec state-after-requires returns returns-2)
+state-then-spec = tie.close (tie.spec (λ c κs. search needs) returns returns-2)

@@ -20,27 +20,15 @@ abbrev μ-loop : tie.MeasureT-loop
 returns : tie.Need-returns Inv-loop μ-loop
 returns c = sym (fits-over _ _ (c .if1 .taken))
 
-awaited-fits-requires : tie.Need-awaited-fits-requires Inv-loop μ-loop
-awaited-fits-requires c κs = search needs
-
 returns-2 : tie.Need-returns-2 Inv-loop μ-loop
 returns-2 c = sym (fits-awaited _ _ false (c .before .before .if1 .left) (sym (c .before .awaited-fits .ensures) ∙ not-true _ (c .if2 .taken)))
 
 loop-holds : tie.Need-loop-holds Inv-loop μ-loop
 loop-holds c = (omega arith, below-none _)
 
-place-fits-requires : tie.Need-place-fits-requires Inv-loop μ-loop
-place-fits-requires c κs = search needs
-
 returns-3 : tie.Need-returns-3 Inv-loop μ-loop
 returns-3 c = let a = c .before .before .before .before .before .before .before .before .args in
     sym (fits-awaited (a .s) (a .r) true (c .before .before .before .before .before .before .if1 .left) (sym (c .before .before .before .before .before .awaited-fits .ensures) ∙ not-false _ (c .before .before .before .before .if2 .left)) ∙ all-fails 7 (placeFits (a .s) (a .r)) (c .before .before .before .loop .k) (c .before .before .loop-test .taken) (sym (c .before .place-fits .ensures) ∙ not-true _ (c .if3 .taken)))
-
-add-k : tie.Need-add-k Inv-loop μ-loop
-add-k c = search needs
-
-loop-less : tie.Need-loop-less Inv-loop μ-loop
-loop-less c = search needs
 
 loop-again : tie.Need-loop-again Inv-loop μ-loop
 loop-again c = let a = c .before .before .before .before .before .before .before .before .args in
@@ -54,15 +42,13 @@ pub fits-set-spec : {M : Type 1} → statement M
 fits-set-spec =
     tie.close
     (tie.spec
-    Inv-loop
-    μ-loop
+    Inv-loop μ-loop
     returns
-    awaited-fits-requires
+    (λ c κs. search needs)
     returns-2
     loop-holds
-    place-fits-requires
+    (λ c κs. search needs)
     returns-3
-    add-k
-    loop-less
+    (λ c. search needs) (λ c. search needs)
     loop-again
     returns-4)

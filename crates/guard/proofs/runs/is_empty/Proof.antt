@@ -11,9 +11,6 @@ returns : tie.Need-returns
 unfolding placeEmpty
 returns c = simp (ne-eqb _ _ (c .if1 .taken))
 
-in-hand-requires : tie.Need-in-hand-requires
-in-hand-requires c κs = search needs
-
 returns-2 : tie.Need-returns-2
 unfolding placeEmpty
 returns-2 c = simp (eq-eqb _ _ (c .before .before .if1 .left), sym (c .before .in-hand .ensures) ∙ c .if2 .taken)
@@ -30,5 +27,4 @@ returns-5 : tie.Need-returns-5
 returns-5 c = empty-last _ _ (c .before .before .before .before .before .before .before .if1 .left) (sym (c .before .before .before .before .before .before .in-hand .ensures) ∙ c .before .before .before .before .before .if2 .left) (c .before .before .before .if3 .left) (c .before .if4 .left)
 
 pub is-empty-spec : {M : Type 1} → statement M
-is-empty-spec =
-    tie.close (tie.spec returns in-hand-requires returns-2 returns-3 returns-4 returns-5)
+is-empty-spec = tie.close (tie.spec returns (λ c κs. search needs) returns-2 returns-3 returns-4 returns-5)

@@ -4,7 +4,7 @@ use mathlib.Core.Path.{sym, ap, _∙_}
 use native.Mathlib.Omega.{arith}
 use Rattle.tasks.proofs.Valid.{passed-valid}
 use Rattle.guard.specs.Runs.{legalFor}
-use Rattle.guard.proofs.RunLaws.{legal-none, legal-task}
+use Rattle.game.proofs.LegalLaws.{legal-none, legal-task}
 use Rattle.guard.proofs.runs.is_legal.Statement.{statement}
 use Rattle.guard.proofs.runs.is_legal.Tie as tie
 
@@ -12,48 +12,30 @@ returns : tie.Need-returns
 unfolding legalFor
 returns c = sym (ap (legalFor (c .before .args .t1) (c .before .args .t2)) (c .if1 .taken))
 
-cast-if2 : tie.Need-cast-if2
-cast-if2 c = search needs
-
 returns-2 : tie.Need-returns-2
+unfolding legalFor
 returns-2 c = sym (legal-none _ _ _ (c .if2 .taken))
-
-sub-t : tie.Need-sub-t
-sub-t c = search needs
-
-mul-t : tie.Need-mul-t
-mul-t c = search needs
 
 element-copy-out-t : tie.Need-element-copy-out-t
 element-copy-out-t c = omega (arith, passed-valid (c .before .before .args .t1) (c .before .before .pre) .count .1)
 
-sub-x : tie.Need-sub-x
-sub-x c = search needs
-
-mul-x : tie.Need-mul-x
-mul-x c = search needs
-
 array-copy-out-x : tie.Need-array-copy-out-x
 array-copy-out-x c = omega (arith, passed-valid (c .before .before .before .args .t1) (c .before .before .before .pre) .count .1)
 
-is-runnable-requires : tie.Need-is-runnable-requires
-is-runnable-requires c κs = search needs
-
 returns-3 : tie.Need-returns-3
-returns-3 c = let a = c .before .before .before .before .before .args in c .is-runnable .ensures ∙ legal-task (a .t1) (a .t2) (a .choice) (c .before .before .before .before .if1 .left) (c .before .before .before .if2 .left)
+unfolding legalFor
+returns-3 c = let a = c .before .before .before .before .before .args in c .is-runnable .ensures ∙ sym (legal-task (a .t1) _ (a .choice) (c .before .before .before .before .if1 .left) (c .before .before .before .if2 .left))
 
 pub is-legal-spec : {M : Type 1} → statement M
 is-legal-spec =
     tie.close
     (tie.spec
     returns
-    cast-if2
+    (λ c. search needs)
     returns-2
-    sub-t
-    mul-t
+    (λ c. search needs) (λ c. search needs)
     element-copy-out-t
-    sub-x
-    mul-x
+    (λ c. search needs) (λ c. search needs)
     array-copy-out-x
-    is-runnable-requires
+    (λ c κs. search needs)
     returns-3)

@@ -6,15 +6,9 @@ use Rattle.guard.specs.Runs.{taskFits}
 use Rattle.guard.proofs.runs.task_fits.Statement.{statement}
 use Rattle.guard.proofs.runs.task_fits.Tie as tie
 
-in-range-requires : tie.Need-in-range-requires
-in-range-requires c κs = search needs
-
 returns : tie.Need-returns
 unfolding taskFits
 returns c = simp (sym (c .before .in-range .ensures) ∙ not-true _ (c .if1 .taken))
-
-sum-holds-requires : tie.Need-sum-holds-requires
-sum-holds-requires c κs = search needs
 
 returns-2 : tie.Need-returns-2
 unfolding taskFits
@@ -24,13 +18,9 @@ returns-3 : tie.Need-returns-3
 unfolding taskFits
 returns-3 c = simp (sym (c .before .before .before .before .before .in-range .ensures) ∙ not-false _ (c .before .before .before .before .if1 .left), sym (c .before .before .before .sum-holds .ensures) ∙ not-false _ (c .before .before .if2 .left), lt-leb _ _ (c .if3 .taken))
 
-add-result : tie.Need-add-result
-add-result c = search needs
-
 returns-4 : tie.Need-returns-4
 unfolding taskFits
 returns-4 c = simp (sym (c .before .before .before .before .before .before .in-range .ensures) ∙ not-false _ (c .before .before .before .before .before .if1 .left), sym (c .before .before .before .before .sum-holds .ensures) ∙ not-false _ (c .before .before .before .if2 .left), le-leb _ _ (c .before .if3 .left))
 
 pub task-fits-spec : {M : Type 1} → statement M
-task-fits-spec =
-    tie.close (tie.spec in-range-requires returns sum-holds-requires returns-2 returns-3 add-result returns-4)
+task-fits-spec = tie.close (tie.spec (λ c κs. search needs) returns (λ c κs. search needs) returns-2 returns-3 (λ c. search needs) returns-4)

@@ -10,25 +10,10 @@ Inv-loop r e₀ e = e ≤ 17
 abbrev μ-loop : tie.MeasureT-loop
 μ-loop r e₀ e = 17 - e
 
-loop-holds : tie.Need-loop-holds Inv-loop μ-loop
-loop-holds c = search needs
-
-choices-requires : tie.Need-choices-requires Inv-loop μ-loop
-choices-requires c κs = search needs
-
-add-e : tie.Need-add-e Inv-loop μ-loop
-add-e c = search needs
-
-loop-less : tie.Need-loop-less Inv-loop μ-loop
-loop-less c = search needs
-
-loop-again : tie.Need-loop-again Inv-loop μ-loop
-loop-again c = search needs
-
-returns : tie.Need-returns Inv-loop μ-loop
-returns c = search needs
-
 pub entries-from-0-to-16-spec : {M : Type 1} → statement M
 entries-from-0-to-16-spec =
     tie.close
-    (tie.spec Inv-loop μ-loop loop-holds choices-requires add-e loop-less loop-again returns)
+    (tie.spec
+    Inv-loop μ-loop
+    (λ c. search needs) (λ c κs. search needs) (λ c. search needs) (λ c. search needs) (λ c. search needs)
+    (λ c. search needs))

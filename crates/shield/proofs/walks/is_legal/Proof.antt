@@ -6,7 +6,7 @@ use Rattle.tasks.specs.Sets.{taskAt}
 use Rattle.game.specs.Ticks.{runnable}
 use Rattle.tasks.proofs.Valid.{passed-valid}
 use Rattle.shield.specs.Shield.{legalIn}
-use Rattle.shield.proofs.FineLaws.{legal-none, legal-task}
+use Rattle.game.proofs.LegalLaws.{legal-none, legal-task}
 use borrow.Author.Needs.{needs}
 use Rattle.shield.proofs.walks.is_legal.Statement.{statement}
 use Rattle.shield.proofs.walks.is_legal.Tie as tie
@@ -16,6 +16,7 @@ unfolding legalIn
 returns c = sym (ap (legalIn (c .before .args .t1) (c .before .args .d .now)) (c .if1 .taken))
 
 returns-2 : tie.Need-returns-2
+unfolding legalIn
 returns-2 c = sym (legal-none _ _ _ (c .if2 .taken))
 
 element-copy-out-t : tie.Need-element-copy-out-t
@@ -29,8 +30,9 @@ state-of-requires c κs = let q = c .before .before .before .if1 .left in
     c .before .before .before .before .pre .1 (c .before .before .before .before .args .choice - 1) (omega arith)
 
 returns-3 : tie.Need-returns-3
+unfolding legalIn
 returns-3 c = let a = c .before .before .before .before .before .before .args in
-    c .is-runnable .ensures ∙ ap (runnable (taskAt (a .t1) (a .choice - 1))) (c .before .state-of .ensures) ∙ sym (legal-task (a .t1) (a .d .now) (a .choice) (c .before .before .before .before .before .if1 .left) (c .before .before .before .before .if2 .left))
+    c .is-runnable .ensures ∙ ap (runnable (taskAt (a .t1) (a .choice - 1))) (c .before .state-of .ensures) ∙ sym (legal-task (a .t1) _ (a .choice) (c .before .before .before .before .before .if1 .left) (c .before .before .before .before .if2 .left))
 
 pub is-legal-spec : {M : Type 1} → statement M
 is-legal-spec =
