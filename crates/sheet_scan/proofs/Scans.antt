@@ -1,12 +1,12 @@
 -- The pass over a text, byte by byte. Assumes nothing.
 use mathlib.Core.Path.{_≡_, refl, sym, ap, _∙_, subst}
 use mathlib.Core.Logic.{⊎-elim}
-use mathlib.Core.Bool.{Bool, true, false, not, _&&_}
+use mathlib.Core.Bool.{true, false, not}
 use mathlib.Core.List.{List, [], _∷_, _++_}
 use Prim.Native.Nat.{ℕ, suc, _+_, _-_, _≤_, _<_}
 use native.Mathlib.Numerals.{add-one}
 use native.Mathlib.Omega.{arith}
-use lib.Dec.{T, ltb, eqb}
+use lib.Dec.{T}
 use lib.ListN.{length, getD, take, drop, length-drop}
 use lib.Seq.{take-suc, take-all, getD-drop}
 use Rattle.sheet_form.specs.Form.{Member, FaultAt, Form, fits, stops}
@@ -18,8 +18,8 @@ use Rattle.sheet_form.proofs.Shown.{Ok, shown, step-reads}
 use Rattle.sheet_form.proofs.Runs.{run-append}
 use Rattle.sheet_form.proofs.Places.{one-fault, fault-no-member, one-sheet, fault-from, accepts, accepted, start-ok, form}
 use Rattle.sheet_fields.specs.declared.state.State.{State}
-use Rattle.sheet_fields.specs.State.{setWord, atLine, atFault, blankOf}
-use Rattle.sheet_scan.specs.Steps.{stepOf}
+use Rattle.sheet_fields.specs.State.{setWord, atFault, blankOf}
+use Rattle.sheet_scan.specs.Steps.{stepOf, wholeAt}
 use Rattle.sheet_scan.specs.Scan.{stoppedAt, scanOf, scanText}
 use Rattle.sheet_scan.proofs.Pack.{sheetIn, pack, setAfter, Packs, same, fault-mode}
 
@@ -82,7 +82,7 @@ module _ (t : List ℕ) (s : State) (k : Set) (i : ℕ) (f : SoFar t s k i) (h :
       good : Ok next × (shown next ≡ shown now ++ (getD t i 0 ∷ [])) → next ≡ fault
       good g = let x : ⊥ = omega (arith, fault-mode next (g .0), ap (λ (x : State). x .mode) (packs .is)) in absurd x
 
-accepts-mode : (q : machine.State) → Ok q → accepts q ≡ (eqb (pack q .mode) atLine && ltb 0 (pack q .count))
+accepts-mode : (q : machine.State) → Ok q → accepts q ≡ wholeAt (pack q)
 accepts-mode (word opening k) o = refl
 accepts-mode (word (kind s true) k) o = refl
 accepts-mode (word (kind s false) k) o = refl
@@ -93,23 +93,19 @@ accepts-mode (field (runs s h d) xs v) o = refl
 accepts-mode (field (gaps s h d c) xs v) o = refl
 accepts-mode fault o = absurd o
 
--- whether the bytes that led to a state are a whole sheet's
-abbrev pub ended : State → Bool
-ended s = eqb (s .mode) atLine && ltb 0 (s .count)
-
 module _ (t : List ℕ) (s : State) (k : Set) (i : ℕ) (f : SoFar t s k i) (e : length t ≤ i) where
   all : take i t ≡ t
   all = take-all i t e
 
-  answer : accepts (run start t) ≡ ended s
-  answer = subst (λ l. accepts (run start l) ≡ ended s) all (accepts-mode (run start (take i t)) (f .ok) ∙ ap ended (sym (f .keeps)))
+  answer : accepts (run start t) ≡ wholeAt s
+  answer = subst (λ l. accepts (run start l) ≡ wholeAt s) all (accepts-mode (run start (take i t)) (f .ok) ∙ ap wholeAt (sym (f .keeps)))
 
-  ended-fault : ended s ≡ false → FaultAt t i
+  ended-fault : wholeAt s ≡ false → FaultAt t i
   ended-fault n =
       fault-from t i (record { within = f .within; ok = f .ok; reads = f .reads; next = λ h. let x : ⊥ = omega arith in absurd x })
       (λ z. subst (λ b. T (not b)) (sym (answer ∙ n)) tt)
 
-  ended-sheet : ended s ≡ true → (m : Member t) × (k ≡ setOf (m .sheet))
+  ended-sheet : wholeAt s ≡ true → (m : Member t) × (k ≡ setOf (m .sheet))
   ended-sheet y =
       let g = accepted t (subst T (sym (answer ∙ y)) tt) in
       (g .member, f .says ∙ ap (λ l. setOf (sheetIn (run start l))) all ∙ ap (λ q. setOf (sheetIn q)) (g .ends))
@@ -144,10 +140,10 @@ module _ (text : List ℕ) (at : ℕ) where
       outside : length (drop at text) ≤ i - at
       outside = omega (arith, length-drop at text, f .from)
 
-      pub past-open : ended s ≡ false → stoppedAt (i - at) ≡ scanText (drop at text)
+      pub past-open : wholeAt s ≡ false → stoppedAt (i - at) ≡ scanText (drop at text)
       past-open e = scan-by (drop at text) (stops (i - at) (ended-fault (drop at text) s k (i - at) (f .far) outside e))
 
-      pub past-whole : ended s ≡ true → record { whole = true; reach = i - at; set = k } ≡ scanText (drop at text)
+      pub past-whole : wholeAt s ≡ true → record { whole = true; reach = i - at; set = k } ≡ scanText (drop at text)
       past-whole e =
           let g = ended-sheet (drop at text) s k (i - at) (f .far) outside e in
           let n : i - at ≡ length (drop at text) = omega (arith, outside, f .far .within) in

@@ -45,6 +45,10 @@ stepOf s b =
     cond (ltb (s .mode) inName) (wordOf s b)
     (cond (eqb (s .mode) inName) (nameOf s b) (cond (eqb (s .mode) atLine) (lineStart s b) (cond (ltb (s .mode) atFault) (fieldOf s b) (blankOf atFault))))
 
+-- whether the bytes that led to a state are a whole sheet's: a line could begin, and a task has ended
+abbrev pub wholeAt : State → Bool
+wholeAt s = eqb (s .mode) atLine && ltb 0 (s .count)
+
 -- WHAT A BYTE THAT LEADS FROM s TO n ADDS
 
 -- a character of the name, at its place

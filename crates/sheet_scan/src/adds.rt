@@ -4,8 +4,7 @@ use sheet_fields::state::State;
 ghost use mathlib.Core.Path.{_≡_};
 ghost use Rattle.sheet_scan.specs.Steps.{nameAfter, endsTask};
 
-// A character of the name. No state that is reached stands past the name's last place: the last test only lets the contract hold for
-// every state.
+// A character of the name. No step stays in the name past its last place: the last test only lets the contract hold for any two states.
 pub(crate) fn add_byte(name: &mut [u8; 16], s: State, n: State, b: u8)
     ensures { λ r. ⌜ now (name .exit) ≡ nameAfter (now (name .entry)) s n b ⌝ }
 {
@@ -21,7 +20,7 @@ pub(crate) fn add_byte(name: &mut [u8; 16], s: State, n: State, b: u8)
     }
 }
 
-// Whether a task ends. None ends after the seventh: the last test only lets the store that follows be in range for every state.
+// Whether a task ends. None ends after the seventh: the last test only says that its place is in range, for any two states.
 pub(crate) fn ends_task(s: State, n: State) -> bool
     ensures { λ r. ⌜ r ≡ endsTask s n ⌝ }
 {

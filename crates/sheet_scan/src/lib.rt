@@ -52,10 +52,7 @@ pub fn scan(text: &[u8], at: usize) -> Scanned
         s = n;
         i += 1;
     }
-    if s.mode != state::LINE {
-        return stopped(i - at);
-    }
-    if s.count == 0 {
+    if !steps::is_whole(s) {
         return stopped(i - at);
     }
     let set = Set {

@@ -6,7 +6,7 @@ use tasks::sets;
 ghost use mathlib.Core.Path.{_≡_};
 ghost use Prim.Native.Nat.{_<_};
 ghost use lib.ListN.{length, getD};
-ghost use Rattle.sheet_scan.specs.Steps.{wordAt, wordOf, nameOf, lineStart, stepOf};
+ghost use Rattle.sheet_scan.specs.Steps.{wordAt, wordOf, nameOf, lineStart, stepOf, wholeAt};
 
 // The byte at a place of the word that the mode names.
 fn letter(mode: u8, at: u8) -> u8
@@ -122,4 +122,14 @@ pub(crate) fn step(s: State, b: u8) -> State
         return in_field(s, b);
     }
     state::blank(state::FAULT)
+}
+
+// Whether the bytes that led to a state are a whole sheet's: a line could begin, and a task has ended.
+pub(crate) fn is_whole(s: State) -> bool
+    ensures { λ r. ⌜ r ≡ wholeAt s ⌝ }
+{
+    if s.mode != state::LINE {
+        return false;
+    }
+    0 < s.count
 }

@@ -1,5 +1,5 @@
 -- The bytes before i are a beginning of some sheet, s is what is kept of them, and name, count and tasks are the set that they say.
-use mathlib.Core.Path.{_≡_, refl, sym, ap, _∙_, subst, subst⁻¹}
+use mathlib.Core.Path.{_≡_, sym, ap, _∙_, subst, subst⁻¹}
 use mathlib.Core.Logic.{⊎-elim}
 use mathlib.Core.Bool.{true, false, _&&_, cond}
 use mathlib.Core.List.{List}
@@ -8,18 +8,17 @@ use native.Mathlib.Omega.{arith}
 use lib.Dec.{T, eqb, ltb, ltb→lt}
 use lib.ListN.{length, drop, getD, set}
 use borrow.Author.Needs.{needs}
-use borrow.Author.Tests.{eq-eqb, ne-eqb, lt-ltb}
+use borrow.Author.Tests.{not-true, not-false}
 use Rattle.arena.proofs.Tests.{and-right}
 use Rattle.tasks.specs.declared.sets.Task.{Task}
 use Rattle.tasks.specs.declared.sets.Set.{Set}
 use Rattle.sheet_fields.specs.declared.state.State.{State}
 use Rattle.sheet_fields.specs.State.{setWord, atLine, inGaps, blankOf}
-use Rattle.sheet_scan.specs.Steps.{tasksAfter}
+use Rattle.sheet_scan.specs.Steps.{wholeAt, tasksAfter}
 use Rattle.sheet_scan.specs.Scan.{stoppedAt, scanText}
 use Rattle.sheet_fields.specs.Fields.{endedTask}
-use Rattle.sheet_fields.proofs.Kept.{some}
 use Rattle.sheet_scan.proofs.Pack.{setAfter}
-use Rattle.sheet_scan.proofs.Scans.{Past, ended, past-first, past-more, past-fault, past-open, past-whole}
+use Rattle.sheet_scan.proofs.Scans.{Past, past-first, past-more, past-fault, past-open, past-whole}
 use Rattle.sheet_scan.proofs.scan.Statement.{statement}
 use Rattle.sheet_scan.proofs.scan.Tie as tie
 
@@ -46,10 +45,10 @@ module _ (c : tie.After-loop Inv-loop μ-loop) where
   abbrev said : Set
   said = so-far (c .before .loop .name) (c .before .loop .tasks) (c .before .loop .s)
 
-  unended : ended (c .before .loop .s) ≡ false → stoppedAt (c .before .loop .i - at) ≡ scanText (drop at text)
+  unended : wholeAt (c .before .loop .s) ≡ false → stoppedAt (c .before .loop .i - at) ≡ scanText (drop at text)
   unended = past-open text at (c .before .loop .s) said (c .before .loop .i) (c .before .loop .inv) (c .loop-test .left)
 
-  whole : ended (c .before .loop .s) ≡ true → record { whole = true; reach = c .before .loop .i - at; set = said } ≡ scanText (drop at text)
+  whole : wholeAt (c .before .loop .s) ≡ true → record { whole = true; reach = c .before .loop .i - at; set = said } ≡ scanText (drop at text)
   whole = past-whole text at (c .before .loop .s) said (c .before .loop .i) (c .before .loop .inv) (c .loop-test .left)
 
 -- a task that ends is in range, and is put after those before it
@@ -138,6 +137,9 @@ loop-again c =
     subst⁻¹ (λ x. Past (a .text .now) (a .at) n x (l .i + 1)) k
     (past-more (a .text .now) (a .at) (l .s) (so-far (l .name) (l .tasks) (l .s)) (l .i) (l .inv) (t .loop-test .taken) n (r .step .ensures) (d .before .before .if1 .left))
 
+is-whole-requires : tie.Need-is-whole-requires Inv-loop μ-loop
+is-whole-requires c κs = search needs
+
 sub-stopped-2 : tie.Need-sub-stopped-2 Inv-loop μ-loop
 sub-stopped-2 c = c .before .before .before .loop .inv .from
 
@@ -145,26 +147,15 @@ stopped-requires-2 : tie.Need-stopped-requires-2 Inv-loop μ-loop
 stopped-requires-2 c κs = search needs
 
 returns-2 : tie.Need-returns-2 Inv-loop μ-loop
-returns-2 c = c .stopped2 .ensures ∙ unended (c .before .before .before) (rw (ne-eqb _ 4 (c .before .if3 .taken)) refl)
-
-sub-stopped-3 : tie.Need-sub-stopped-3 Inv-loop μ-loop
-sub-stopped-3 c = c .before .before .before .before .before .loop .inv .from
-
-stopped-requires-3 : tie.Need-stopped-requires-3 Inv-loop μ-loop
-stopped-requires-3 c κs = search needs
-
-returns-3 : tie.Need-returns-3 Inv-loop μ-loop
-returns-3 c =
-    let e3 = c .before .before .before in
-    c .stopped3 .ensures ∙ unended (e3 .before .before) (rw (eq-eqb _ 4 (e3 .if3 .left), c .before .if4 .taken) refl)
+returns-2 c =
+    let w = c .before .before in
+    c .stopped2 .ensures ∙ unended (w .before) (sym (w .is-whole .ensures) ∙ not-true _ (c .before .if3 .taken))
 
 sub-t29 : tie.Need-sub-t29 Inv-loop μ-loop
-sub-t29 c = c .before .before .before .before .before .loop .inv .from
+sub-t29 c = c .before .before .before .loop .inv .from
 
-returns-4 : tie.Need-returns-4 Inv-loop μ-loop
-returns-4 c =
-    let e3 = c .before .before in
-    whole (e3 .before .before) (rw (eq-eqb _ 4 (e3 .if3 .left), lt-ltb 0 _ (some _ (c .if4 .left))) refl)
+returns-3 : tie.Need-returns-3 Inv-loop μ-loop
+returns-3 c = whole (c .before .before) (sym (c .before .is-whole .ensures) ∙ not-false _ (c .if3 .left))
 
 pub scan-spec : {M : Type 1} → statement M
 scan-spec =
@@ -189,11 +180,9 @@ scan-spec =
     add-i
     loop-less
     loop-again
+    is-whole-requires
     sub-stopped-2
     stopped-requires-2
     returns-2
-    sub-stopped-3
-    stopped-requires-3
-    returns-3
     sub-t29
-    returns-4)
+    returns-3)

@@ -1,7 +1,6 @@
 -- From the gaps to a line's start, with room for a task.
 use borrow.Author.Tests.{eq-eqb, ne-eqb}
 use mathlib.Core.Path.{refl}
-use borrow.Author.Needs.{needs}
 use Rattle.sheet_scan.proofs.adds.ends_task.Statement.{statement}
 use Rattle.sheet_scan.proofs.adds.ends_task.Tie as tie
 
