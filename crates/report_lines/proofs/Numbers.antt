@@ -1,6 +1,5 @@
 -- A number in base ten, and how many digits it has. Assumes nothing.
 use mathlib.Core.Path.{_≡_, sym, ap, ap₂, _∙_, subst}
-use mathlib.Core.Logic.{⊎-elim}
 use mathlib.Core.Bool.{cond}
 use mathlib.Core.List.{List, [], _∷_, _++_}
 use Prim.Native.Nat.{ℕ, zero, suc, _+_, _-_, _*_, _/_, _%_, _^_, _≤_, _<_}
@@ -10,17 +9,15 @@ use lib.Dec.{ltb}
 use lib.ListN.{length, length-append}
 use borrow.Author.Tests.{lt-ltb, le-ltb}
 use Rattle.io.specs.Digits.{glyph, digits, Fewest}
-use Rattle.sheet_form.specs.Form.{decimal}
-use Rattle.arena.proofs.Tests.{by-cond, lt-or-le}
-use Rattle.sheet_form.proofs.Shown.{decimal-low, decimal-high}
+use Rattle.arena.proofs.Tests.{by-cond}
 use Rattle.report_lines.specs.Lines.{digitsTo, numberText, field}
 
 -- a number below 10 is its digit, and any other is that of its tens and its last digit
-pub digits-one : (k n : ℕ) → n < 10 → digitsTo (suc k) n ≡ (48 + n) ∷ []
+digits-one : (k n : ℕ) → n < 10 → digitsTo (suc k) n ≡ (48 + n) ∷ []
 unfolding digitsTo
 digits-one k n h = ap (λ b. cond b ((48 + n) ∷ []) (digitsTo k (n / 10) ++ ((48 + n % 10) ∷ []))) (lt-ltb n 10 h)
 
-pub digits-more : (k n : ℕ) → 10 ≤ n → digitsTo (suc k) n ≡ digitsTo k (n / 10) ++ ((48 + n % 10) ∷ [])
+digits-more : (k n : ℕ) → 10 ≤ n → digitsTo (suc k) n ≡ digitsTo k (n / 10) ++ ((48 + n % 10) ∷ [])
 unfolding digitsTo
 digits-more k n h = ap (λ b. cond b ((48 + n) ∷ []) (digitsTo k (n / 10) ++ ((48 + n % 10) ∷ []))) (le-ltb n 10 h)
 
@@ -28,7 +25,7 @@ glyph-digit : (d : ℕ) → d < 10 → glyph d ≡ 48 + d
 glyph-digit d h = ap (λ b. cond b (48 + d) (87 + d)) (lt-ltb d 10 h)
 
 -- ten or more where there are two digits or more, and one digit less in the tens
-pub tens : (r n : ℕ) → Fewest 10 1 n (suc (suc r)) → (10 ≤ n) × Fewest 10 1 (n / 10) (suc r)
+tens : (r n : ℕ) → Fewest 10 1 n (suc (suc r)) → (10 ≤ n) × Fewest 10 1 (n / 10) (suc r)
 tens r n f =
     let p : 1 ≤ 10 ^ r = one-le-pow r 10 (zero-lt-suc 9) in
     let e : suc (suc r) - 1 ≡ suc r = omega arith in
@@ -81,16 +78,3 @@ number-length k n h = digits-length k (suc n) n h
 pub field-length : (w : List ℕ) (k n : ℕ) → n < 10 ^ suc k → length (field w n) ≤ length w + suc k
 unfolding field
 field-length w k n h = omega (arith, length-append w (numberText n), number-length k n h)
-
--- a number below 100 is written as in a sheet
-pub sheet-number : (v : ℕ) → v < 100 → numberText v ≡ decimal v
-unfolding numberText
-sheet-number v h =
-    ⊎-elim (λ l. digits-one v v l ∙ sym (decimal-low v l))
-    (λ l. digits-more v v l ∙ ap (λ x. x ++ ((48 + v % 10) ∷ [])) (tens-digit l) ∙ sym (decimal-high v l)) (lt-or-le v 10)
-  where
-    tens-digit : 10 ≤ v → digitsTo v (v / 10) ≡ (48 + v / 10) ∷ []
-    tens-digit l = ap (λ k. digitsTo k (v / 10)) (sym e) ∙ digits-one (v - 1) (v / 10) (omega arith)
-      where
-        e : suc (v - 1) ≡ v
-        e = omega arith

@@ -31,7 +31,7 @@ use Rattle.texts.specs.Puts.{Puts}
 use Rattle.texts.proofs.PutLaws.{puts-as, puts-whole}
 use Rattle.reporter.specs.declared.Reported.{Reported}
 use Rattle.reporter.specs.declared.Reported.the-variants.{Length, Refused}
-use Rattle.report_lines.proofs.Lengths.{Short, set-length, shield-length, rows-length}
+use Rattle.report_lines.proofs.Lengths.{Short, set-length, shield-length, rows-length, refused-length}
 use Rattle.report_lines.specs.Lines.{rowLines, rowsText, refusedLine}
 use Rattle.reporter.specs.Report.{Told, builtText, toldBuilt, toldRead, toldOf, room, Left, leaving, placed, reportOf, Tells}
 
@@ -87,6 +87,10 @@ module _ (S : ℕ) (t : List ℕ) where
 
 pub tells-as : {p q : List ℕ} {n : ℕ} {t w : List ℕ} {x y : Told} → Tells p q n t w x → x ≡ y → Tells p q n t w y
 tells-as {p} {q} {n} {t} {w} k e = subst (Tells p q n t w) e k
+
+-- a refusal's line fits
+pub refused-short : (f : Refusal) → f .number < 10 ^ 3 → f .place < 10 ^ 10 → length (refusedLine f) ≤ room
+refused-short f n p = omega (arith, refused-length f n p)
 
 -- what the builder answered
 pub tells-built : (s : Set) (t w : List ℕ) (b x : Built) (t′ w′ : List ℕ) {p q : List ℕ} {n : ℕ} → Builds s t w b t′ w′ → b ≡ x

@@ -2,9 +2,7 @@
 use mathlib.Core.Bool.{_&&_, cond}
 use Prim.Native.Nat.{ℕ, _+_, _-_, _%_, _^_}
 use lib.Dec.{leb, ltb, eqb}
-use lib.ListN.{set}
 use Rattle.tasks.specs.declared.sets.Task.{Task}
-use Rattle.tasks.specs.declared.sets.Set.{Set}
 use Rattle.sheet_form.specs.Machine.{digit}
 use Rattle.sheet_fields.specs.declared.fields.Kept.{Kept}
 use Rattle.sheet_fields.specs.declared.state.State.{State}
@@ -22,35 +20,25 @@ pushOf last bits v = cond (ltb last v && leb v 16) (record { last = v; bits = (b
 unfoldable pub enderOf : ℕ → ℕ
 enderOf m = cond (eqb m inGaps) 10 32
 
--- a set with one task more
-abbrev pub addTask : Set → Task → Set
-addTask s τ = record { name = s .name; count = s .count + 1; tasks = set (s .tasks) (s .count) τ }
+-- the task that ends with the number read, the last of its gaps
+abbrev pub endedTask : State → Task
+endedTask s = record { kind = s .kind; deadline = s .deadline; runs = s .runs; gaps = pushOf (s .last) (s .bits) (s .at) .bits }
 
 -- the number read ends a field
 unfoldable pub closedOf : State → State
 closedOf s =
     cond (eqb (s .mode) inDeadline)
-    (record { mode = inRuns; at = 0; last = s .last; bits = s .bits; kind = s .kind; deadline = s .at; runs = s .runs; set = s .set })
+    (record { mode = inRuns; at = 0; last = s .last; bits = s .bits; kind = s .kind; deadline = s .at; runs = s .runs; count = s .count })
     (cond (eqb (s .mode) inRuns)
-    (record { mode = inGaps; at = 0; last = 0; bits = 0; kind = s .kind; deadline = s .deadline; runs = pushOf (s .last) (s .bits) (s .at) .bits; set = s .set })
-    (cond (ltb (s .set .count) 7)
-    (record {
-      mode = atLine;
-      at = 0;
-      last = 0;
-      bits = 0;
-      kind = 0;
-      deadline = 0;
-      runs = 0;
-      set = addTask (s .set) (record { kind = s .kind; deadline = s .deadline; runs = s .runs; gaps = pushOf (s .last) (s .bits) (s .at) .bits });
-    })
+    (record { mode = inGaps; at = 0; last = 0; bits = 0; kind = s .kind; deadline = s .deadline; runs = pushOf (s .last) (s .bits) (s .at) .bits; count = s .count })
+    (cond (ltb (s .count) 7) (record { mode = atLine; at = 0; last = 0; bits = 0; kind = 0; deadline = 0; runs = 0; count = s .count + 1 })
     (blankOf atFault)))
 
 -- a comma after the number read
 abbrev pub commaOf : State → State
 commaOf s =
     let k = pushOf (s .last) (s .bits) (s .at) in
-    record { mode = s .mode; at = 0; last = k .last; bits = k .bits; kind = s .kind; deadline = s .deadline; runs = s .runs; set = s .set }
+    record { mode = s .mode; at = 0; last = k .last; bits = k .bits; kind = s .kind; deadline = s .deadline; runs = s .runs; count = s .count }
 
 -- a digit, the field's end or, in a list, a comma
 unfoldable pub fieldOf : State → ℕ → State

@@ -1,6 +1,5 @@
 -- What is kept of a sheet that is half read.
 use Prim.Native.Nat.{ℕ}
-use Rattle.sheet_form.specs.Sets.{noSet}
 use Rattle.sheet_fields.specs.declared.state.State.{State}
 
 -- the modes: in the words `set `, `hard ` and `soft `, in the name, at a line's start, in a field, at a fault
@@ -33,8 +32,8 @@ atFault = 8
 
 -- nothing kept, at a mode
 abbrev pub blankOf : ℕ → State
-blankOf m = record { mode = m; at = 0; last = 0; bits = 0; kind = 0; deadline = 0; runs = 0; set = noSet }
+blankOf m = record { mode = m; at = 0; last = 0; bits = 0; kind = 0; deadline = 0; runs = 0; count = 0 }
 
 -- the same kept, at another mode and place
 abbrev pub moved : State → ℕ → ℕ → State
-moved s m n = record { mode = m; at = n; last = s .last; bits = s .bits; kind = s .kind; deadline = s .deadline; runs = s .runs; set = s .set }
+moved s m n = record { mode = m; at = n; last = s .last; bits = s .bits; kind = s .kind; deadline = s .deadline; runs = s .runs; count = s .count }

@@ -4,7 +4,7 @@ use crate::state::State;
 use tasks::sets::Task;
 ghost use mathlib.Core.Path.{_≡_};
 ghost use Rattle.sheet_form.specs.Machine.{digit};
-ghost use Rattle.sheet_fields.specs.Fields.{pushOf, enderOf, closedOf, commaOf, fieldOf};
+ghost use Rattle.sheet_fields.specs.Fields.{pushOf, enderOf, endedTask, closedOf, commaOf, fieldOf};
 
 // A list as it is read: its last number and its bits; 17 and no bits once it does not rise.
 pub struct Kept {
@@ -56,43 +56,62 @@ fn ender(mode: u8) -> u8
     b' '
 }
 
+// The task that ends with the number read, the last of its gaps.
+pub fn ended_task(s: State) -> Task
+    ensures { λ r. ⌜ r ≡ endedTask s ⌝ }
+{
+    let k = push(s.last, s.bits, s.at);
+    Task {
+        kind: s.kind,
+        deadline: s.deadline,
+        runs: s.runs,
+        gaps: k.bits,
+    }
+}
+
 // The number read ends a field; with the gaps a task ends. No line begins after the seventh task, so the test of the count only lets
 // the contract hold for every state.
 fn closed(s: State) -> State
     ensures { λ r. ⌜ r ≡ closedOf s ⌝ }
 {
-    let mut r = s;
-    r.at = 0;
     if s.mode == state::DEADLINE {
-        r.mode = state::RUNS;
-        r.deadline = s.at;
-        return r;
+        return State {
+            mode: state::RUNS,
+            at: 0,
+            last: s.last,
+            bits: s.bits,
+            kind: s.kind,
+            deadline: s.at,
+            runs: s.runs,
+            count: s.count,
+        };
     }
-    let k = push(s.last, s.bits, s.at);
-    r.last = 0;
-    r.bits = 0;
     if s.mode == state::RUNS {
-        r.mode = state::GAPS;
-        r.runs = k.bits;
-        return r;
+        let k = push(s.last, s.bits, s.at);
+        return State {
+            mode: state::GAPS,
+            at: 0,
+            last: 0,
+            bits: 0,
+            kind: s.kind,
+            deadline: s.deadline,
+            runs: k.bits,
+            count: s.count,
+        };
     }
-    let t = Task {
-        kind: s.kind,
-        deadline: s.deadline,
-        runs: s.runs,
-        gaps: k.bits,
-    };
-    let mut set = s.set;
-    let n = set.count;
-    if 7 <= n {
+    if 7 <= s.count {
         return state::blank(state::FAULT);
     }
-    let i = n as usize;
-    set.tasks[i] = t;
-    set.count = n + 1;
-    let mut q = state::blank(state::LINE);
-    q.set = set;
-    q
+    State {
+        mode: state::LINE,
+        at: 0,
+        last: 0,
+        bits: 0,
+        kind: 0,
+        deadline: 0,
+        runs: 0,
+        count: s.count + 1,
+    }
 }
 
 // A comma after the number read.
@@ -100,11 +119,16 @@ fn comma(s: State) -> State
     ensures { λ r. ⌜ r ≡ commaOf s ⌝ }
 {
     let k = push(s.last, s.bits, s.at);
-    let mut r = s;
-    r.at = 0;
-    r.last = k.last;
-    r.bits = k.bits;
-    r
+    State {
+        mode: s.mode,
+        at: 0,
+        last: k.last,
+        bits: k.bits,
+        kind: s.kind,
+        deadline: s.deadline,
+        runs: s.runs,
+        count: s.count,
+    }
 }
 
 // One byte in a number or a list.
@@ -113,9 +137,7 @@ pub fn in_field(s: State, b: u8) -> State
 {
     let n = more_digit(s.at, b);
     if 0 < n {
-        let mut r = s;
-        r.at = n;
-        return r;
+        return state::move_to(s, s.mode, n);
     }
     if s.at == 0 {
         return state::blank(state::FAULT);

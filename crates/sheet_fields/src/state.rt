@@ -3,7 +3,7 @@ use tasks::sets::Set;
 use tasks::sets::Task;
 ghost use mathlib.Core.Path.{_≡_};
 ghost use Rattle.sheet_form.specs.Sets.{noSet};
-ghost use Rattle.sheet_fields.specs.State.{blankOf};
+ghost use Rattle.sheet_fields.specs.State.{blankOf, moved};
 
 // Where the next byte stands: in a word, in the name, at a line's start, in a field; or a byte before it was a fault.
 pub const SET_WORD: u8 = 0;
@@ -24,8 +24,8 @@ pub const GAPS: u8 = 7;
 
 pub const FAULT: u8 = 8;
 
-// What is kept of the bytes read. `at`: how many bytes of the word or the name, or the number begun, 0 where none is.
-// `last` and `bits`: the list begun.
+// What is kept of the bytes read, beside the name and the tasks. `at`: how many bytes of the word or the name, or the number begun, 0
+// where none is. `last` and `bits`: the list begun. `count`: the tasks that have ended.
 pub struct State {
     pub mode: u8,
     pub at: u8,
@@ -34,7 +34,7 @@ pub struct State {
     pub kind: u8,
     pub deadline: u8,
     pub runs: u16,
-    pub set: Set,
+    pub count: u8,
 }
 
 // A set of zeros.
@@ -58,7 +58,6 @@ pub fn no_set() -> Set
 pub fn blank(mode: u8) -> State
     ensures { λ r. ⌜ r ≡ blankOf mode ⌝ }
 {
-    let set = no_set();
     State {
         mode: mode,
         at: 0,
@@ -67,6 +66,22 @@ pub fn blank(mode: u8) -> State
         kind: 0,
         deadline: 0,
         runs: 0,
-        set: set,
+        count: 0,
+    }
+}
+
+// The same kept, at another mode and place. Each field is named, since a copy that is then changed is slower.
+pub fn move_to(s: State, mode: u8, at: u8) -> State
+    ensures { λ r. ⌜ r ≡ moved s mode at ⌝ }
+{
+    State {
+        mode,
+        at,
+        last: s.last,
+        bits: s.bits,
+        kind: s.kind,
+        deadline: s.deadline,
+        runs: s.runs,
+        count: s.count,
     }
 }

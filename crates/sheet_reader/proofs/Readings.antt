@@ -1,107 +1,134 @@
 -- What reading answers, refusal by refusal. Assumes nothing.
-use mathlib.Core.Path.{_≡_, refl, sym, ap, subst, _∙_}
-use mathlib.Core.Bool.{Bool, true, false, _&&_, cond}
-use mathlib.Core.List.{List, _∷_, _++_}
-use Prim.Native.Nat.{ℕ, _+_, _≤_, _<_}
+use mathlib.Core.Path.{_≡_, refl, ap, subst⁻¹, _∙_}
+use mathlib.Core.Bool.{false, _&&_}
+use mathlib.Core.List.{List, [], _∷_, _++_}
+use Prim.Native.Nat.{ℕ, suc, _+_, _≤_, _<_}
 use native.Mathlib.Omega.{arith}
-use lib.Dec.{ltb}
-use lib.ListN.{length}
-use borrow.Author.Tests.{ltb-false}
+use lib.Dec.{ltb, nltb→le}
+use lib.ListN.{length, replicate}
+use borrow.Author.Tests.{lt-ltb, le-ltb}
 use Rattle.tasks.specs.declared.refusals.Refusal.{Refusal}
 use Rattle.tasks.specs.declared.sets.Set.{Set}
 use Rattle.tasks.specs.declared.sets.Tested.{Tested}
 use Rattle.tasks.specs.declared.sets.Tested.the-variants.{States, Refused as FailedWith}
-use Rattle.tasks.specs.Refusals.{refusing, sheetTooLong, sheetForm, badRecord}
-use Rattle.tasks.specs.Sets.{testStates, testSet}
+use Rattle.tasks.specs.Refusals.{Said, answered, refusing, sheetTooLong, sheetForm, badRecord, tooManyStates}
+use Rattle.tasks.specs.Sets.{refuseOr, statesOf, testStates, testSet}
 use Rattle.sheet_form.specs.Form.{Line, Each, longest, Member, FaultAt, Form, fits, stops}
-use Rattle.sheet_form.specs.Sets.{rising, setOf, lineFault, lowestLine}
+use Rattle.sheet_form.specs.Sets.{rising, setOf, noSet, lineFault, lowestLine}
 use Rattle.tasks.proofs.Valid.{refused-number}
 use Rattle.arena.proofs.Tests.{by-cond}
 use Rattle.sheet_form.proofs.Faults.{lines-tested, lowest-at, not-rising}
 use Rattle.sheet_form.proofs.Places.{form}
 use Rattle.sheet_reader.specs.declared.SheetRead.{SheetRead}
-use Rattle.sheet_reader.specs.declared.ReadAnswer.{ReadAnswer}
-use Rattle.sheet_reader.specs.declared.ReadAnswer.the-variants.{Taken, Refused}
-use Rattle.sheet_reader.proofs.Passes.{read-short, reach-short}
-use Rattle.sheet_reader.specs.Reading.{refusedWith, longRead, faultRead, testedRead, formRead, readText, reachText, setValues, saidAnswer, saidRead}
+use Rattle.sheet_reader.specs.declared.ReadAnswer.the-variants.{Taken}
+use Rattle.sheet_reader.proofs.Passes.{read-long, read-short, reach-short}
+use Rattle.sheet_reader.specs.Reading.{refusedWith, testedRead, formRead, readText, reachText, setValues, saidRead}
+
+-- the answer to a text in the paper's terms: number, place, and the set's 45 values
+abbrev pub said : List ℕ → Said
+said t = saidRead (readText t)
+
+-- REFUSAL 1: the text is too long, whatever it holds
+
+pub long-read : (t : List ℕ) → longest < length t → said t ≡ refusing 45 (record { number = sheetTooLong; place = 0 })
+long-read t h = ap saidRead (read-long t h)
 
 -- REFUSAL 2: reading answers it, at the place p, exactly if the text is not too long and its form is at fault at p
 
-pub fault-read : (t : List ℕ) (p : ℕ) → length t ≤ longest → FaultAt t p → readText t ≡ faultRead p
-fault-read t p h f = read-short t h (stops p f)
+pub fault-read : (t : List ℕ) (p : ℕ) → length t ≤ longest → FaultAt t p → said t ≡ refusing 45 (record { number = sheetForm; place = p })
+fault-read t p h f = ap saidRead (read-short t h (stops p f))
 
-module _ (t : List ℕ) (p : ℕ) where
+module _ (t : List ℕ) where
+  abbrev Faulty : SheetRead → Type 0
+  Faulty r = saidRead r .number ≡ sheetForm → (length t ≤ longest) × FaultAt t (saidRead r .place)
+
   -- a sheet's set is refused with 3 to 6, and never with 2
-  tested-fault : (m : Member t) (r : Tested) → testSet (setOf (m .sheet)) ≡ r → testedRead (setOf (m .sheet)) r ≡ faultRead p → ⊥
-  tested-fault m (States n) e g = let h = ap (λ (x : SheetRead). x .answer) g in let z : _≡_ {A = ℕ} 0 1 = cc in omega arith
-  tested-fault m (FailedWith f) e g = omega (arith, refused-number (setOf (m .sheet)) f e .0, ap (λ x. saidRead x .number) g)
+  tested-fault : (s : Set) (r : Tested) → testSet s ≡ r → Faulty (testedRead s r)
+  tested-fault s (States n) e g = let z : ⊥ = omega arith in absurd z
+  tested-fault s (FailedWith f) e g = let z : ⊥ = omega (arith, refused-number s f e .0) in absurd z
 
-  formed-fault : (f : Form t) (c : Bool) → ltb longest (length t) ≡ c → cond c longRead (formRead t f) ≡ faultRead p → (length t ≤ longest) × FaultAt t p
-  formed-fault f true h e = let z : ⊥ = omega (arith, ap (λ x. saidRead x .number) e) in absurd z
-  formed-fault (stops q x) false h e = (ltb-false longest (length t) h, subst (FaultAt t) (ap (λ x. saidRead x .place) e) x)
-  formed-fault (fits m) false h e = absurd (tested-fault m (testSet (setOf (m .sheet))) refl e)
+  formed-fault : length t ≤ longest → (f : Form t) → Faulty (formRead t f)
+  formed-fault h (stops p x) e = (h, x)
+  formed-fault h (fits m) e = tested-fault (setOf (m .sheet)) (testSet (setOf (m .sheet))) refl e
 
-  pub read-fault : readText t ≡ faultRead p → (length t ≤ longest) × FaultAt t p
+  pub read-fault : said t .number ≡ sheetForm → (length t ≤ longest) × FaultAt t (said t .place)
   unfolding readText
-  read-fault e = formed-fault (form t) (ltb longest (length t)) refl e
+  read-fault =
+      by-cond Faulty (ltb longest (length t)) _ _ (λ b e. let z : ⊥ = omega arith in absurd z) (λ b. formed-fault (nltb→le longest (length t) b) (form t))
 
--- REFUSALS 3 TO 6: the lowest task at fault, then the number of states
+-- REFUSALS 3 TO 6: the lowest task at fault, then the number of states; else the set is taken
 
-pub read-lines : (t : List ℕ) (m : Member t) → length t ≤ longest
-    → readText t ≡ testedRead (setOf (m .sheet)) (lowestLine 0 (m .sheet .lines) (testStates (setOf (m .sheet))))
-read-lines t m h = read-short t h (fits m) ∙ ap (testedRead (setOf (m .sheet))) (lines-tested (m .sheet) (m .formed))
+faultless : (ls : List Line) (i : ℕ) (r : Tested) → Each (λ x. lineFault x ≡ 0) ls → lowestLine i ls r ≡ r
+faultless [] i r g = refl
+faultless (l ∷ ls) i r g = ap (λ n. refuseOr n (suc i) (lowestLine (suc i) ls r)) (g .0) ∙ faultless ls (suc i) r (g .1)
 
--- the line l of a sheet is the lowest at fault: the lines before it are without fault
-module _ (t : List ℕ) (m : Member t) (h : length t ≤ longest) (xs : List Line) (l : Line) (ys : List Line) (e : m .sheet .lines ≡ xs ++ (l ∷ ys)) (g : Each (λ x. lineFault x ≡ 0) xs) where
-  pub read-lowest : 0 < lineFault l → readText t ≡ refusedWith (record { number = lineFault l; place = length xs + 1 })
-  read-lowest p =
-      let s = setOf (m .sheet) in
-      let z : 0 + length xs + 1 ≡ length xs + 1 = omega arith in
-      read-lines t m h ∙ ap (λ ls. testedRead s (lowestLine 0 ls (testStates s))) e
-      ∙ ap (testedRead s) (lowest-at xs l ys 0 (testStates s) g p) ∙ ap (λ n. refusedWith (record { number = lineFault l; place = n })) z
+module _ (t : List ℕ) (m : Member t) (h : length t ≤ longest) where
+  abbrev its-set : Set
+  its-set = setOf (m .sheet)
 
-  -- a list of it does not rise
-  pub read-not-rising : (rising (l .runs) && rising (l .gaps)) ≡ false → readText t ≡ refusedWith (record { number = badRecord; place = length xs + 1 })
-  read-not-rising r =
-      let n : lineFault l ≡ badRecord = not-rising l r in
-      read-lowest (omega arith) ∙ ap (λ k. refusedWith (record { number = k; place = length xs + 1 })) n
+  pub read-lines : readText t ≡ testedRead its-set (lowestLine 0 (m .sheet .lines) (testStates its-set))
+  read-lines = read-short t h (fits m) ∙ ap (testedRead its-set) (lines-tested (m .sheet) (m .formed))
+
+  -- the line l is the lowest at fault: the lines before it are without fault
+  module _ (xs : List Line) (l : Line) (ys : List Line) (e : m .sheet .lines ≡ xs ++ (l ∷ ys)) (g : Each (λ x. lineFault x ≡ 0) xs) where
+    pub read-lowest : 0 < lineFault l → said t ≡ refusing 45 (record { number = lineFault l; place = length xs + 1 })
+    read-lowest p =
+        let z : 0 + length xs + 1 ≡ length xs + 1 = omega arith in
+        ap saidRead (read-lines ∙ ap (λ ls. testedRead its-set (lowestLine 0 ls (testStates its-set))) e ∙ ap (testedRead its-set) (lowest-at xs l ys 0 (testStates its-set) g p))
+        ∙ ap (λ n. refusing 45 (record { number = lineFault l; place = n })) z
+
+    -- a list of it does not rise
+    pub read-not-rising : (rising (l .runs) && rising (l .gaps)) ≡ false → said t ≡ refusing 45 (record { number = badRecord; place = length xs + 1 })
+    read-not-rising r =
+        let n : lineFault l ≡ badRecord = not-rising l r in
+        read-lowest (omega arith) ∙ ap (λ k. refusing 45 (record { number = k; place = length xs + 1 })) n
+
+  -- no line is at fault
+  module _ (g : Each (λ x. lineFault x ≡ 0) (m .sheet .lines)) where
+    by-states : readText t ≡ testedRead its-set (testStates its-set)
+    by-states = read-lines ∙ ap (testedRead its-set) (faultless (m .sheet .lines) 0 (testStates its-set) g)
+
+    pub read-too-many : 60000 < statesOf its-set → said t ≡ refusing 45 (record { number = tooManyStates; place = 0 })
+    unfolding testStates
+    read-too-many n = ap saidRead by-states ∙ rw (lt-ltb 60000 (statesOf its-set) n) refl
+
+    pub set-read : statesOf its-set ≤ 60000 → said t ≡ answered (setValues its-set)
+    unfolding testStates
+    set-read n = ap saidRead by-states ∙ rw (le-ltb 60000 (statesOf its-set) n) refl
 
 -- EVERY REFUSAL has a number of 1 to 6, and a set of zeros beside it
 
-module _ (f : Refusal) where
-  abbrev Bare : SheetRead → Type 0
-  Bare r = r .answer ≡ Refused f → (r ≡ refusedWith f) × (1 ≤ f .number) × (f .number ≤ 6)
+data Fair : SheetRead → Type 0 where
+  taken : (s : Set) → Fair (record { answer = Taken; set = s })
+  refused : (f : Refusal) → 1 ≤ f .number → f .number ≤ 6 → Fair (refusedWith f)
 
-  bare : (x : Refusal) → (1 ≤ x .number) × (x .number ≤ 6) → Bare (refusedWith x)
-  bare x h e =
-      let g : x ≡ f = cc in
-      let n : x .number ≡ f .number = ap (λ (y : Refusal). y .number) g in
-      (ap refusedWith g, omega arith, omega arith)
+fair-tested : (s : Set) (r : Tested) → testSet s ≡ r → Fair (testedRead s r)
+fair-tested s (States n) e = taken s
+fair-tested s (FailedWith f) e = let k = refused-number s f e in refused f (omega arith) (omega arith)
 
-  bare-tested : (s : Set) (r : Tested) → testSet s ≡ r → Bare (testedRead s r)
-  bare-tested s (States n) e g = let z : _≡_ {A = ℕ} 0 1 = cc in absurd (omega arith)
-  bare-tested s (FailedWith x) e g = let k = refused-number s x e in bare x (omega arith, omega arith) g
+fair-formed : (t : List ℕ) (f : Form t) → Fair (formRead t f)
+fair-formed t (stops p e) = refused (record { number = sheetForm; place = p }) (omega arith) (omega arith)
+fair-formed t (fits m) = fair-tested (setOf (m .sheet)) (testSet (setOf (m .sheet))) refl
 
-  bare-formed : (t : List ℕ) (x : Form t) → Bare (formRead t x)
-  bare-formed t (stops p d) = bare (record { number = sheetForm; place = p }) (omega arith)
-  bare-formed t (fits m) = bare-tested (setOf (m .sheet)) (testSet (setOf (m .sheet))) refl
+fair : (t : List ℕ) → Fair (readText t)
+unfolding readText
+fair t =
+    by-cond Fair (ltb longest (length t)) _ _ (λ b. refused (record { number = sheetTooLong; place = 0 }) (omega arith) (omega arith)) (λ b. fair-formed t (form t))
 
-  pub refused-zeros : (t : List ℕ) → readText t .answer ≡ Refused f → (readText t ≡ refusedWith f) × (1 ≤ f .number) × (f .number ≤ 6)
-  unfolding readText
-  refused-zeros t =
-      by-cond Bare (ltb longest (length t)) _ _ (λ b. bare (record { number = sheetTooLong; place = 0 }) (omega arith)) (λ b. bare-formed t (form t))
-
-  -- in the paper's terms: zeros for the 45 values of a set
-  pub refused-said : (t : List ℕ) → readText t .answer ≡ Refused f → saidRead (readText t) ≡ refusing 45 f
-  refused-said t e = ap saidRead (refused-zeros t e .0)
+pub refused-said : (t : List ℕ) → 0 < said t .number → (said t .number ≤ 6) × (readText t .set ≡ noSet) × (said t .values ≡ replicate 45 0)
+refused-said t = go (fair t)
+  where
+    go : {r : SheetRead} → Fair r → 0 < saidRead r .number → (saidRead r .number ≤ 6) × (r .set ≡ noSet) × (saidRead r .values ≡ replicate 45 0)
+    go (taken s) h = let z : ⊥ = omega arith in absurd z
+    go (refused f l u) h = (u, refl, refl)
 
 -- so an answer without a number is a set that was taken
 pub read-taken : (t : List ℕ) (q : SheetRead) → q ≡ readText t → saidRead q .number ≡ 0 → q .answer ≡ Taken
-read-taken t q e g = go (q .answer) refl
+read-taken t q e = subst⁻¹ (λ r. saidRead r .number ≡ 0 → r .answer ≡ Taken) e (go (fair t))
   where
-    go : (a : ReadAnswer) → q .answer ≡ a → q .answer ≡ Taken
-    go Taken k = k
-    go (Refused f) k = let z : ⊥ = omega (arith, refused-zeros f t (sym (ap (λ (r : SheetRead). r .answer) e) ∙ k) .1, ap (λ a. saidAnswer a (setValues (q .set)) .number) k) in absurd z
+    go : {r : SheetRead} → Fair r → saidRead r .number ≡ 0 → r .answer ≡ Taken
+    go (taken s) g = refl
+    go (refused f l u) g = let z : ⊥ = omega arith in absurd z
 
 -- WHERE A READER THEN STANDS: at the end of a sheet, at the place of a fault of form, and where it was in a text that is too long (`reach-long`)
 

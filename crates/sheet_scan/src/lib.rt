@@ -1,6 +1,8 @@
 // One pass over the bytes of a sheet: how far its form goes, and the set that it says.
+mod adds;
 mod steps;
 
+use sheet_fields::fields::ended_task;
 use sheet_fields::state;
 use tasks::sets::Set;
 ghost use mathlib.Core.Path.{_≡_};
@@ -30,23 +32,34 @@ fn stopped(reach: usize) -> Scanned
 pub fn scan(text: &[u8], at: usize) -> Scanned
     ensures { λ r. ⌜ r ≡ scanText (drop at (now (text .entry))) ⌝ }
 {
+    let none = state::no_set();
+    let mut name = none.name;
+    let mut tasks = none.tasks;
     let mut s = state::blank(state::SET_WORD);
     let mut i = at;
     while i < text.len() {
-        let n = steps::step(s, text[i]);
+        let b = text[i];
+        let n = steps::step(s, b);
         if n.mode == state::FAULT {
             return stopped(i - at);
+        }
+        adds::add_byte(&mut name, s, n, b);
+        if adds::ends_task(s, n) {
+            let k = s.count as usize;
+            let t = ended_task(s);
+            tasks[k] = t;
         }
         s = n;
         i += 1;
     }
-    if s.mode != state::LINE {
+    if !steps::is_whole(s) {
         return stopped(i - at);
     }
-    let set = s.set;
-    if set.count == 0 {
-        return stopped(i - at);
-    }
+    let set = Set {
+        name: name,
+        count: s.count,
+        tasks: tasks,
+    };
     Scanned {
         whole: true,
         reach: i - at,

@@ -6,7 +6,7 @@ use tasks::sets;
 ghost use mathlib.Core.Path.{_≡_};
 ghost use Prim.Native.Nat.{_<_};
 ghost use lib.ListN.{length, getD};
-ghost use Rattle.sheet_scan.specs.Steps.{wordAt, wordOf, nameOf, lineStart, stepOf};
+ghost use Rattle.sheet_scan.specs.Steps.{wordAt, wordOf, nameOf, lineStart, stepOf, wholeAt};
 
 // The byte at a place of the word that the mode names.
 fn letter(mode: u8, at: u8) -> u8
@@ -48,47 +48,43 @@ fn in_word(s: State, b: u8) -> State
         return state::blank(state::FAULT);
     }
     let n = s.at + 1;
-    let mut r = s;
     if n < len {
-        r.at = n;
-        return r;
+        return state::move_to(s, s.mode, n);
     }
-    r.at = 0;
     if s.mode == state::SET_WORD {
-        r.mode = state::NAME;
-        return r;
+        return state::move_to(s, state::NAME, 0);
     }
-    r.mode = state::DEADLINE;
+    let mut kind = s.kind;
     if s.mode == state::HARD_WORD {
-        r.kind = 1;
-        return r;
+        kind = 1;
     }
-    r
+    State {
+        mode: state::DEADLINE,
+        at: 0,
+        last: s.last,
+        bits: s.bits,
+        kind: kind,
+        deadline: s.deadline,
+        runs: s.runs,
+        count: s.count,
+    }
 }
 
 // One byte in the name.
 fn in_name(s: State, b: u8) -> State
     ensures { λ r. ⌜ r ≡ nameOf s b ⌝ }
 {
-    let at = s.at as usize;
-    let mut r = s;
     if sets::name_byte(b) {
-        if at < 16 {
-            let mut set = s.set;
-            set.name[at] = b;
-            r.at = s.at + 1;
-            r.set = set;
-            return r;
+        if s.at < 16 {
+            return state::move_to(s, s.mode, s.at + 1);
         }
         return state::blank(state::FAULT);
     }
-    if at == 0 {
+    if s.at == 0 {
         return state::blank(state::FAULT);
     }
     if b == b'\n' {
-        r.mode = state::LINE;
-        r.at = 0;
-        return r;
+        return state::move_to(s, state::LINE, 0);
     }
     state::blank(state::FAULT)
 }
@@ -97,20 +93,14 @@ fn in_name(s: State, b: u8) -> State
 fn at_line(s: State, b: u8) -> State
     ensures { λ r. ⌜ r ≡ lineStart s b ⌝ }
 {
-    let set = s.set;
-    let count = set.count;
-    if 7 <= count {
+    if 7 <= s.count {
         return state::blank(state::FAULT);
     }
-    let mut r = s;
-    r.at = 1;
     if b == b'h' {
-        r.mode = state::HARD_WORD;
-        return r;
+        return state::move_to(s, state::HARD_WORD, 1);
     }
     if b == b's' {
-        r.mode = state::SOFT_WORD;
-        return r;
+        return state::move_to(s, state::SOFT_WORD, 1);
     }
     state::blank(state::FAULT)
 }
@@ -132,4 +122,14 @@ pub(crate) fn step(s: State, b: u8) -> State
         return in_field(s, b);
     }
     state::blank(state::FAULT)
+}
+
+// Whether the bytes that led to a state are a whole sheet's: a line could begin, and a task has ended.
+pub(crate) fn is_whole(s: State) -> bool
+    ensures { λ r. ⌜ r ≡ wholeAt s ⌝ }
+{
+    if s.mode != state::LINE {
+        return false;
+    }
+    0 < s.count
 }

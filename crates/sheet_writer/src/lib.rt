@@ -8,9 +8,6 @@ use tasks::sets;
 use tasks::sets::Set;
 use tasks::sets::Tested;
 ghost use mathlib.Core.Path.{_≡_};
-ghost use mathlib.Core.List.{_++_};
-ghost use Prim.Native.Nat.{_≤_};
-ghost use lib.ListN.{length, take, drop};
 ghost use Rattle.tasks.specs.Sets.{Passed};
 ghost use Rattle.sheet_form.specs.Sets.{textOf};
 ghost use Rattle.sheet_writer.specs.Writing.{leaving, placed, writeOf};
@@ -19,18 +16,6 @@ ghost use Rattle.sheet_writer.specs.Writing.{leaving, placed, writeOf};
 pub enum Wrote {
     Length(u32),
     Refused(Refusal),
-}
-
-// The first n bytes of a page, into a buffer.
-fn copy(buf: &mut [u8], page: &[u8], n: usize)
-    requires { ⌜ (n ≤ length (now buf)) × (n ≤ length (now page)) ⌝ }
-    ensures { λ r. ⌜ now (buf .exit) ≡ take n (now (page .entry)) ++ drop n (now (buf .entry)) ⌝ }
-{
-    let mut i = 0;
-    while i < n {
-        buf[i] = page[i];
-        i += 1;
-    }
 }
 
 // The sheet of a set that passes the test. It is written on a page first, so that its length is known before a byte of the buffer changes.
@@ -46,7 +31,7 @@ fn place(set: Set, buf: &mut [u8]) -> Wrote
             place: n as u32,
         });
     }
-    copy(buf, &page, n);
+    texts::put_word(buf, 0, &page[..n]);
     Wrote::Length(n as u32)
 }
 

@@ -34,11 +34,5 @@ pub fn put_name(buf: &mut [u8], at: usize, name: [u8; 16]) -> usize
     ensures { λ r. ⌜ Puts (now (buf .entry)) (now (buf .exit)) at r (take (characters name) name) ⌝ }
 {
     let n = sets::name_length(name);
-    let mut j = at;
-    let mut i = 0;
-    while i < n {
-        j = put(buf, j, name[i]);
-        i += 1;
-    }
-    j
+    put_word(buf, at, &name[..n])
 }

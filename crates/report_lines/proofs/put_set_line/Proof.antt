@@ -5,54 +5,16 @@ use Rattle.report_lines.specs.Lines.{setLine}
 use Rattle.report_lines.proofs.put_set_line.Statement.{statement}
 use Rattle.report_lines.proofs.put_set_line.Tie as tie
 
-slice-aggregate-put-word : tie.Need-slice-aggregate-put-word
-slice-aggregate-put-word c = search needs
-
-put-word-requires : tie.Need-put-word-requires
-put-word-requires c κs = search needs
-
-put-name-requires : tie.Need-put-name-requires
-put-name-requires c κs = search needs
-
-slice-aggregate-put-field : tie.Need-slice-aggregate-put-field
-slice-aggregate-put-field c = search needs
-
-cast-put-field : tie.Need-cast-put-field
-cast-put-field c = search needs
-
-put-field-requires : tie.Need-put-field-requires
-put-field-requires c κs = search needs
-
-slice-aggregate-put-field-2 : tie.Need-slice-aggregate-put-field-2
-slice-aggregate-put-field-2 c = search needs
-
-put-field-requires-2 : tie.Need-put-field-requires-2
-put-field-requires-2 c κs = search needs
-
-put-requires : tie.Need-put-requires
-put-requires c κs = search needs
-
-same-length : tie.Need-same-length
-same-length c = search needs
-
 returns : tie.Need-returns
 unfolding setLine
 returns c =
-    let a = puts-then (c .before .before .before .before .before .before .before .before .before .before .before .before .before .before .before .before .before .before .before .before .before .put-word .ensures) (c .before .before .before .before .before .before .before .before .before .before .before .before .before .before .before .before .before .put-name .ensures) in
-    puts-then (puts-then (puts-then a (c .before .before .before .before .before .before .before .before .before .before .before .put-field .ensures)) (c .before .before .before .before .before .before .put-field2 .ensures)) (c .before .before .put .ensures)
+    let f = c .before .before .before .before .before .before in
+    let g = f .before .before .before .before .before in
+    let n = g .before .before .before .before .before .before in
+    let a = puts-then (n .before .before .before .before .put-word .ensures) (n .put-name .ensures) in
+    puts-then (puts-then (puts-then a (g .put-field .ensures)) (f .put-field2 .ensures)) (c .before .before .put .ensures)
 
 pub put-set-line-spec : {M : Type 1} → statement M
 put-set-line-spec =
     tie.close
-    (tie.spec
-    slice-aggregate-put-word
-    put-word-requires
-    put-name-requires
-    slice-aggregate-put-field
-    cast-put-field
-    put-field-requires
-    slice-aggregate-put-field-2
-    put-field-requires-2
-    put-requires
-    same-length
-    returns)
+    (tie.spec (λ c. search needs) (λ c κs. search needs) (λ c κs. search needs) (λ c. search needs) (λ c. search needs) (λ c κs. search needs) (λ c. search needs) (λ c κs. search needs) (λ c κs. search needs) (λ c. search needs) returns)

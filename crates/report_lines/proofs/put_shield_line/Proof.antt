@@ -5,45 +5,15 @@ use Rattle.report_lines.specs.Lines.{shieldLine}
 use Rattle.report_lines.proofs.put_shield_line.Statement.{statement}
 use Rattle.report_lines.proofs.put_shield_line.Tie as tie
 
-slice-aggregate-put-field : tie.Need-slice-aggregate-put-field
-slice-aggregate-put-field c = search needs
-
-put-field-requires : tie.Need-put-field-requires
-put-field-requires c κs = search needs
-
-slice-aggregate-put-field-2 : tie.Need-slice-aggregate-put-field-2
-slice-aggregate-put-field-2 c = search needs
-
-put-field-requires-2 : tie.Need-put-field-requires-2
-put-field-requires-2 c κs = search needs
-
-slice-aggregate-put-field-3 : tie.Need-slice-aggregate-put-field-3
-slice-aggregate-put-field-3 c = search needs
-
-put-field-requires-3 : tie.Need-put-field-requires-3
-put-field-requires-3 c κs = search needs
-
-put-requires : tie.Need-put-requires
-put-requires c κs = search needs
-
-same-length : tie.Need-same-length
-same-length c = search needs
-
 returns : tie.Need-returns
 unfolding shieldLine
 returns c =
-    puts-then (puts-then (puts-then (c .before .before .before .before .before .before .before .before .before .before .before .before .before .before .before .before .put-field .ensures) (c .before .before .before .before .before .before .before .before .before .before .before .put-field2 .ensures)) (c .before .before .before .before .before .before .put-field3 .ensures)) (c .before .before .put .ensures)
+    let h = c .before .before .before .before .before .before in
+    let g = h .before .before .before .before .before in
+    let a = puts-then (g .before .before .before .before .before .put-field .ensures) (g .put-field2 .ensures) in
+    puts-then (puts-then a (h .put-field3 .ensures)) (c .before .before .put .ensures)
 
 pub put-shield-line-spec : {M : Type 1} → statement M
 put-shield-line-spec =
     tie.close
-    (tie.spec
-    slice-aggregate-put-field
-    put-field-requires
-    slice-aggregate-put-field-2
-    put-field-requires-2
-    slice-aggregate-put-field-3
-    put-field-requires-3
-    put-requires
-    same-length
-    returns)
+    (tie.spec (λ c. search needs) (λ c κs. search needs) (λ c. search needs) (λ c κs. search needs) (λ c. search needs) (λ c κs. search needs) (λ c κs. search needs) (λ c. search needs) returns)

@@ -12,14 +12,14 @@ use base.Logic.{SProp, ent, sep, snd∗, exE, id⊢}
 use base.Fml.{Lft, Share, ftrue, flft}
 use prog.Memory.{Memory}
 use prog.Routine.{Routine}
-use prog.Wp.{Heap, Calls, Loops, WpFn, Tables}
+use prog.Wp.{Heap, Calls, Loops, WpFn}
 use ghost.Atoms.{Atoms, sem}
 use contract.Monad.{Fun, fact}
-use contract.Running.{givenOf, tables, tablesOf}
+use contract.Running.{givenOf}
 use types.Kit.{Given, ‵, raw, _⊛_, ⋆, some, later, _$_, _∵_, !, qed, by, move, use1, split, join, pick, fjoin, suffices, frame, await, done}
 use types.Part.{whole, sub, look-in}
 use types.Run.{look, init, forget, stop, fld, from, load, of-opd, and-then, no-more, assigns, land, returns, enter, alloc1, alloc0, params1, pass1, pass0, free1, free0}
-use sound.WpLaws.{FmC, fmOf, WpFn-mono}
+use sound.WpLaws.{FmC}
 use denote.Laws.{Is, shows}
 use denote.Ref.{now}
 use denote.Steps.{peeks, heard, nothing}
@@ -27,8 +27,7 @@ use denote.Struct.Laws as LL
 use denote.Triple.Statement.{Contract, Triple}
 use denote.Triple.Call.{calls-at}
 use denote.Triple.Entry.{onEntry}
-use denote.Triple.Spec.{Meets, tripleOf}
-use denote.Triple.Table.{entered, cited}
+use denote.Triple.Spec.{tripleOf}
 use denote.Triple.Walked.{says, walkOf, ends-at}
 use denote.Triple.Clauses.{ensured, lasts}
 use lib.ListN.{drop as dropped}
@@ -36,7 +35,7 @@ use Rattle.sheet_reader.specs.Reading.{readText}
 use Rattle.sheet.specs.declared.Reader.{Reader}
 use Rattle.sheet_reader.specs.declared.SheetRead.{SheetRead}
 use Rattle.sheet.proofs.Reader.Laws as T′
-use Rattle.sheet.proofs.Apart.{mach, passed, Own, Asks, Has, apart, stayed, walk-done}
+use Rattle.sheet.proofs.Apart.{mach, passed, Own, Asks, Has, apart, stayed, met-by}
 use Rattle.sheet_reader.proofs.SheetRead as S
 use Rattle.sheet_reader.proofs.SheetRead.Laws as S′
 use Rattle.sheet_reader.proofs.read_at as step
@@ -94,17 +93,9 @@ module _ {M : Type 1} (𝓤 : URA M) (H : Heap 𝓤) (A : Atoms 𝓤) (W : Given
         returns ! (look ! 9 refl) $ forget ! 3 refl $ forget ! 5 refl $ forget ! 7 refl $ forget ! 9 refl $
         move ! (9 ∷ 10 ∷ []) $ free1 ! $ move ! (7 ∷ 8 ∷ []) $ free1 ! $ move ! (5 ∷ 6 ∷ []) $ free1 ! $ move ! (3 ∷ 4 ∷ []) $ free1 ! $ free0 ! $ by ! (exits r u e)))))))))
 
-next-meets : {M : Type 1} (𝓤 : URA M) (H : Heap 𝓤) (A : Atoms 𝓤) (W : Given 𝓤 H A) (mem : Memory → SProp 𝓤) (run : Routine → Fun 𝓤) (𝓣 : Tables 𝓤 H)
-    → Triple 𝓤 (𝓣 .C #sheet-reader·read-at) (StepAt 𝓤 H A mem run)
-    → Meets 𝓤 H A next.signature (WpFn 𝓤 H (𝓣 .C) (𝓣 .Λ) code.function) (next.spec 𝓤 H A mem run)
-next-meets 𝓤 H A W mem run 𝓣 known-step =
-    walk-done 𝓤 H A W (next.signature .result) (next.clauses 𝓤 H A mem run) (WpFn 𝓤 H (𝓣 .C) (𝓣 .Λ) code.function) (WpFn-mono 𝓤 H (W .laws) 𝓣 code.function)
-    (λ κ q d g. walk 𝓤 H A W mem run κ q d (𝓣 .C) (𝓣 .Λ) (fmOf 𝓤 H (W .laws) 𝓣) known-step)
-
 pub next-spec : {M : Type 1} → stated.statement M
-unfolding code.routine tablesOf
+unfolding code.routine
 next-spec 𝓤 H 𝓜 𝓖 𝓡 =
-    entered 𝓤 H (tripleOf 𝓤 H (𝓖 .A) next.signature (next.spec 𝓤 H (𝓖 .A) (𝓜 .mem) (𝓡 .run)))
-    (tables 𝓤 H 𝓜 𝓡 code.env .C) (tables 𝓤 H 𝓜 𝓡 code.env .Λ) #sheet·next code.function (code.unfolded 𝓤 H 𝓜 𝓡)
-    (next-meets 𝓤 H (𝓖 .A) (givenOf 𝓤 H 𝓜 𝓖) (𝓜 .mem) (𝓡 .run) (tablesOf 𝓤 H 𝓜 (tables 𝓤 H 𝓜 𝓡 code.env))
-    (cited 𝓤 H (StepAt 𝓤 H (𝓖 .A) (𝓜 .mem) (𝓡 .run)) 𝓜 𝓡 code.env #sheet-reader·read-at step-def.routine code.calls-sheet-reader·read-at (step-thm.met 𝓤 H 𝓜 𝓖 𝓡)))
+    met-by 𝓤 H 𝓜 𝓖 𝓡 (next.signature .result) (next.clauses 𝓤 H (𝓖 .A) (𝓜 .mem) (𝓡 .run)) code.env #sheet·next code.function (code.unfolded 𝓤 H 𝓜 𝓡)
+    (StepAt 𝓤 H (𝓖 .A) (𝓜 .mem) (𝓡 .run)) #sheet-reader·read-at step-def.routine code.calls-sheet-reader·read-at (step-thm.met 𝓤 H 𝓜 𝓖 𝓡)
+    (λ C Λ fm known κ q d g. walk 𝓤 H (𝓖 .A) (givenOf 𝓤 H 𝓜 𝓖) (𝓜 .mem) (𝓡 .run) κ q d C Λ fm known)

@@ -13,14 +13,14 @@ use base.Logic.{SProp, ent, sep, snd∗, exE, id⊢}
 use base.Fml.{Lft, Share, ftrue, flft, fat}
 use prog.Memory.{Memory}
 use prog.Routine.{Routine}
-use prog.Wp.{Heap, Calls, Loops, WpFn, Tables}
+use prog.Wp.{Heap, Calls, Loops, WpFn}
 use ghost.Atoms.{Atoms, sem}
 use contract.Monad.{Fun, fact}
-use contract.Running.{givenOf, tables, tablesOf}
+use contract.Running.{givenOf}
 use types.Kit.{Given, ‵, raw, _⊛_, ⋆, some, later, _$_, _∵_, !, qed, by, move, drop, use1, split, join, pick, fjoin, rewrite, suffices, frame, await, done}
 use types.Part.{agg, whole, sub, look-in}
 use types.Run.{look, init, forget, stop, fld, from, load, of-opd, and-then, no-more, assigns, land, returns, enter, alloc1, alloc0, params1, pass1, pass0, free1, free0}
-use sound.WpLaws.{FmC, fmOf, WpFn-mono}
+use sound.WpLaws.{FmC}
 use denote.Laws.{Is, shows}
 use denote.Plain.{uint-makes, uint-lawful}
 use denote.Builtin.{usize}
@@ -30,15 +30,14 @@ use denote.Struct.Rest.{own-put}
 use denote.Triple.Statement.{Contract, Triple}
 use denote.Triple.Call.{calls-at}
 use denote.Triple.Entry.{onEntry}
-use denote.Triple.Spec.{Meets, tripleOf}
-use denote.Triple.Table.{entered, cited}
+use denote.Triple.Spec.{tripleOf}
 use denote.Triple.Walked.{says, walkOf, ends-at}
 use denote.Triple.Clauses.{ensured, lasts}
 use lib.ListN.{drop as dropped}
 use Rattle.sheet_reader.specs.Reading.{reachText}
 use Rattle.sheet.specs.declared.Reader.{Reader}
 use Rattle.sheet.proofs.Reader.Laws as T′
-use Rattle.sheet.proofs.Apart.{D, L, mach, fields, passed, Own, twice, Asks, Has, apart, stayed, walk-done}
+use Rattle.sheet.proofs.Apart.{D, L, mach, fields, passed, Own, twice, Asks, Has, apart, stayed, met-by}
 use Rattle.sheet_reader.proofs.place_after as step
 use Rattle.sheet_reader.proofs.place_after.Symbol as step-def
 use Rattle.sheet_reader.proofs.place_after.Symbol.{name as #sheet-reader·place-after}
@@ -104,17 +103,9 @@ module _ {M : Type 1} (𝓤 : URA M) (H : Heap 𝓤) (A : Atoms 𝓤) (W : Given
         move ! (13 ∷ 14 ∷ []) $ free1 ! $ move ! (11 ∷ 12 ∷ []) $ free1 ! $ move ! (9 ∷ 10 ∷ []) $ free1 ! $ move ! (7 ∷ 8 ∷ []) $ free1 ! $ move ! (5 ∷ 6 ∷ []) $ free1 ! $ move ! (3 ∷ 4 ∷ []) $ free1 ! $ free0 ! $
         drop ! $ by ! (exits n e (is .1))))))))))))
 
-past-meets : {M : Type 1} (𝓤 : URA M) (H : Heap 𝓤) (A : Atoms 𝓤) (W : Given 𝓤 H A) (mem : Memory → SProp 𝓤) (run : Routine → Fun 𝓤) (𝓣 : Tables 𝓤 H)
-    → Triple 𝓤 (𝓣 .C #sheet-reader·place-after) (PlaceAfter 𝓤 H A mem run)
-    → Meets 𝓤 H A past.signature (WpFn 𝓤 H (𝓣 .C) (𝓣 .Λ) code.function) (past.spec 𝓤 H A mem run)
-past-meets 𝓤 H A W mem run 𝓣 known-step =
-    walk-done 𝓤 H A W (past.signature .result) (past.clauses 𝓤 H A mem run) (WpFn 𝓤 H (𝓣 .C) (𝓣 .Λ) code.function) (WpFn-mono 𝓤 H (W .laws) 𝓣 code.function)
-    (λ κ q d g. walk 𝓤 H A W mem run κ q d (𝓣 .C) (𝓣 .Λ) (fmOf 𝓤 H (W .laws) 𝓣) known-step)
-
 pub past-spec : {M : Type 1} → stated.statement M
-unfolding code.routine tablesOf
+unfolding code.routine
 past-spec 𝓤 H 𝓜 𝓖 𝓡 =
-    entered 𝓤 H (tripleOf 𝓤 H (𝓖 .A) past.signature (past.spec 𝓤 H (𝓖 .A) (𝓜 .mem) (𝓡 .run)))
-    (tables 𝓤 H 𝓜 𝓡 code.env .C) (tables 𝓤 H 𝓜 𝓡 code.env .Λ) #sheet·past code.function (code.unfolded 𝓤 H 𝓜 𝓡)
-    (past-meets 𝓤 H (𝓖 .A) (givenOf 𝓤 H 𝓜 𝓖) (𝓜 .mem) (𝓡 .run) (tablesOf 𝓤 H 𝓜 (tables 𝓤 H 𝓜 𝓡 code.env))
-    (cited 𝓤 H (PlaceAfter 𝓤 H (𝓖 .A) (𝓜 .mem) (𝓡 .run)) 𝓜 𝓡 code.env #sheet-reader·place-after step-def.routine code.calls-sheet-reader·place-after (step-thm.met 𝓤 H 𝓜 𝓖 𝓡)))
+    met-by 𝓤 H 𝓜 𝓖 𝓡 (past.signature .result) (past.clauses 𝓤 H (𝓖 .A) (𝓜 .mem) (𝓡 .run)) code.env #sheet·past code.function (code.unfolded 𝓤 H 𝓜 𝓡)
+    (PlaceAfter 𝓤 H (𝓖 .A) (𝓜 .mem) (𝓡 .run)) #sheet-reader·place-after step-def.routine code.calls-sheet-reader·place-after (step-thm.met 𝓤 H 𝓜 𝓖 𝓡)
+    (λ C Λ fm known κ q d g. walk 𝓤 H (𝓖 .A) (givenOf 𝓤 H 𝓜 𝓖) (𝓜 .mem) (𝓡 .run) κ q d C Λ fm known)

@@ -1,54 +1,87 @@
--- The bytes before i are a beginning of some sheet, and s is what is kept of them.
-use mathlib.Core.Path.{_≡_, refl, _∙_, subst⁻¹}
-use mathlib.Core.Bool.{true, false, _&&_}
+-- The bytes before i are a beginning of some sheet, s is what is kept of them, and name, count and tasks are the set that they say.
+use mathlib.Core.Path.{_≡_, sym, ap, _∙_, subst, subst⁻¹}
+use mathlib.Core.Logic.{⊎-elim}
+use mathlib.Core.Bool.{true, false, _&&_, cond}
 use mathlib.Core.List.{List}
-use Prim.Native.Nat.{ℕ, _-_}
+use Prim.Native.Nat.{ℕ, _+_, _-_, _<_}
 use native.Mathlib.Omega.{arith}
-use lib.Dec.{ltb, eqb}
-use lib.ListN.{length, drop}
+use lib.Dec.{T, eqb, ltb, ltb→lt}
+use lib.ListN.{length, drop, getD, set}
 use borrow.Author.Needs.{needs}
-use borrow.Author.Tests.{eq-eqb, ne-eqb, lt-ltb}
+use borrow.Author.Tests.{not-true, not-false}
+use Rattle.arena.proofs.Tests.{and-right}
+use Rattle.tasks.specs.declared.sets.Task.{Task}
+use Rattle.tasks.specs.declared.sets.Set.{Set}
 use Rattle.sheet_fields.specs.declared.state.State.{State}
-use Rattle.sheet_fields.specs.State.{atLine}
+use Rattle.sheet_fields.specs.State.{setWord, atLine, inGaps, blankOf}
+use Rattle.sheet_scan.specs.Steps.{wholeAt, tasksAfter}
 use Rattle.sheet_scan.specs.Scan.{stoppedAt, scanText}
-use Rattle.sheet_fields.proofs.Kept.{some}
+use Rattle.sheet_fields.specs.Fields.{endedTask}
+use Rattle.sheet_scan.proofs.Pack.{setAfter}
 use Rattle.sheet_scan.proofs.Scans.{Past, past-first, past-more, past-fault, past-open, past-whole}
 use Rattle.sheet_scan.proofs.scan.Statement.{statement}
 use Rattle.sheet_scan.proofs.scan.Tie as tie
 
+abbrev so-far : List ℕ → List Task → State → Set
+so-far name tasks s = record { name = name; count = s .count; tasks = tasks }
+
 abbrev Inv-loop : tie.InvT-loop
-Inv-loop text at s₀ i₀ s i = Past text at s i
+Inv-loop text at name₀ tasks₀ s₀ i₀ name tasks s i = Past text at s (so-far name tasks s) i
 
 abbrev μ-loop : tie.MeasureT-loop
-μ-loop text at s₀ i₀ s i = length text - i
+μ-loop text at name₀ tasks₀ s₀ i₀ name tasks s i = length text - i
+
+abbrev entered : tie.At-loop Inv-loop μ-loop → tie.Start Inv-loop μ-loop
+entered c = c .before .before .before .before .before .before
 
 -- past the loop all bytes are read: what the last mode and count then say
 module _ (c : tie.After-loop Inv-loop μ-loop) where
   abbrev text : List ℕ
-  text = c .before .before .before .before .args .text .now
+  text = entered (c .before) .args .text .now
 
   abbrev at : ℕ
-  at = c .before .before .before .before .args .at
+  at = entered (c .before) .args .at
 
-  abbrev kept : State
-  kept = c .before .loop .s
+  abbrev said : Set
+  said = so-far (c .before .loop .name) (c .before .loop .tasks) (c .before .loop .s)
 
-  unended : (eqb (kept .mode) atLine && ltb 0 (kept .set .count)) ≡ false → stoppedAt (c .before .loop .i - at) ≡ scanText (drop at text)
-  unended = past-open text at kept (c .before .loop .i) (c .before .loop .inv) (c .loop-test .left)
+  unended : wholeAt (c .before .loop .s) ≡ false → stoppedAt (c .before .loop .i - at) ≡ scanText (drop at text)
+  unended = past-open text at (c .before .loop .s) said (c .before .loop .i) (c .before .loop .inv) (c .loop-test .left)
 
-  full : (eqb (kept .mode) atLine && ltb 0 (kept .set .count)) ≡ true → record { whole = true; reach = c .before .loop .i - at; set = kept .set } ≡ scanText (drop at text)
-  full = past-whole text at kept (c .before .loop .i) (c .before .loop .inv) (c .loop-test .left)
+  whole : wholeAt (c .before .loop .s) ≡ true → record { whole = true; reach = c .before .loop .i - at; set = said } ≡ scanText (drop at text)
+  whole = past-whole text at (c .before .loop .s) said (c .before .loop .i) (c .before .loop .inv) (c .loop-test .left)
+
+-- a task that ends is in range, and is put after those before it
+in-range : (c : tie.Then2 Inv-loop μ-loop) → c .before .before .before .before .before .before .before .before .before .loop .s .count < 7
+in-range c =
+    let r = c .before .before .before .before .before .before in
+    let s = r .before .before .before .loop .s in
+    let ends = eqb (s .mode) inGaps && eqb (r .step .result .mode) atLine in
+    ltb→lt (s .count) 7 (and-right ends (ltb (s .count) 7) (subst T (sym (c .if2 .taken) ∙ c .before .ends-task .ensures) tt))
+
+tasks-added : (c : tie.Joined2 Inv-loop μ-loop) → let r = c .before .before .before .before .before .before in let l = r .before .before .before .loop in c .if2 .tasks ≡ tasksAfter (l .tasks) (l .s) (r .step .result)
+tasks-added c =
+    let r = c .before .before .before .before .before .before in
+    let l = r .before .before .before .loop in
+    let e = c .before .ends-task in
+    ⊎-elim (λ w. w .3 ∙ ap (set (l .tasks) (l .s .count)) (w .2 .ensures) ∙ sym (ap (λ b. cond b (set (l .tasks) (l .s .count) (endedTask (l .s))) (l .tasks)) (sym (e .ensures) ∙ w .0 .taken)))
+    (λ w. w .1 ∙ sym (ap (λ b. cond b (set (l .tasks) (l .s .count) (endedTask (l .s))) (l .tasks)) (sym (e .ensures) ∙ w .0 .left))) (c .if2 .came)
+
+no-set-requires : tie.Need-no-set-requires Inv-loop μ-loop
+no-set-requires c κs = search needs
 
 blank-requires : tie.Need-blank-requires Inv-loop μ-loop
 blank-requires c κs = search needs
 
 loop-holds : tie.Need-loop-holds Inv-loop μ-loop
 loop-holds c =
-    let a = c .before .before .args in
-    subst⁻¹ (λ x. Past (a .text .now) (a .at) x (a .at)) (c .blank .ensures) (past-first (a .text .now) (a .at))
+    let a = c .before .before .before .before .before .args in
+    let n = c .before .before .before .no-set in
+    subst⁻¹ (λ (x : State). Past (a .text .now) (a .at) x (so-far (n .result .name) (n .result .tasks) x) (a .at)) (c .blank .ensures)
+    (subst⁻¹ (λ (x : Set). Past (a .text .now) (a .at) (blankOf setWord) (record { name = x .name; count = 0; tasks = x .tasks }) (a .at)) (n .ensures) (past-first (a .text .now) (a .at)))
 
-shared-slice-read-step : tie.Need-shared-slice-read-step Inv-loop μ-loop
-shared-slice-read-step c = search needs
+shared-slice-read-b : tie.Need-shared-slice-read-b Inv-loop μ-loop
+shared-slice-read-b c = search needs
 
 step-requires : tie.Need-step-requires Inv-loop μ-loop
 step-requires c κs = search needs
@@ -61,25 +94,51 @@ stopped-requires c κs = search needs
 
 returns : tie.Need-returns Inv-loop μ-loop
 returns c =
-    let c3 = c .before .before .before in
-    let t = c3 .before .before in
+    let r = c .before .before .before in
+    let t = r .before .before in
     let l = t .before .loop in
-    let a = t .before .before .before .before .args in
-    c .stopped .ensures ∙ past-fault (a .text .now) (a .at) (l .s) (l .i) (l .inv) (c3 .step .result) (t .loop-test .taken) (c3 .step .ensures) (c .before .if1 .taken)
+    let a = entered (t .before) .args in
+    c .stopped .ensures ∙ past-fault (a .text .now) (a .at) (l .s) (so-far (l .name) (l .tasks) (l .s)) (l .i) (l .inv) (t .loop-test .taken) (r .step .result) (r .step .ensures) (c .before .if1 .taken)
+
+add-byte-requires : tie.Need-add-byte-requires Inv-loop μ-loop
+add-byte-requires c κs = search needs
+
+ends-task-requires : tie.Need-ends-task-requires Inv-loop μ-loop
+ends-task-requires c κs = search needs
+
+cast-k : tie.Need-cast-k Inv-loop μ-loop
+cast-k c = search needs
+
+ended-task-requires : tie.Need-ended-task-requires Inv-loop μ-loop
+ended-task-requires c κs = search needs
+
+mul-tasks : tie.Need-mul-tasks Inv-loop μ-loop
+mul-tasks c = omega (arith, in-range (c .before .before))
+
+array-set-from-tasks : tie.Need-array-set-from-tasks Inv-loop μ-loop
+array-set-from-tasks c = in-range (c .before .before)
 
 add-i : tie.Need-add-i Inv-loop μ-loop
-add-i c = omega (arith, c .before .before .before .before .loop-test .taken)
+add-i c = omega (arith, c .before .before .before .before .before .before .before .before .loop-test .taken)
 
 loop-less : tie.Need-loop-less Inv-loop μ-loop
-loop-less c = omega (arith, c .before .before .before .before .loop-test .taken)
+loop-less c = omega (arith, c .before .before .before .before .before .before .before .before .loop-test .taken)
 
 loop-again : tie.Need-loop-again Inv-loop μ-loop
 loop-again c =
-    let c2 = c .before .before in
-    let t = c2 .before .before in
+    let d = c .before .before in
+    let r = d .before .before .before .before in
+    let t = r .before .before in
     let l = t .before .loop in
-    let a = t .before .before .before .before .args in
-    past-more (a .text .now) (a .at) (l .s) (l .i) (l .inv) (c2 .step .result) (t .loop-test .taken) (c2 .step .ensures) (c .if1 .left)
+    let a = entered (t .before) .args in
+    let n = r .step .result in
+    let k : so-far (d .add-byte .last .0) (c .if2 .tasks) n ≡ setAfter (so-far (l .name) (l .tasks) (l .s)) (l .s) n (getD (a .text .now) (l .i) 0)
+    = λ j. record { name = d .add-byte .ensures j; count = n .count; tasks = tasks-added c j } in
+    subst⁻¹ (λ x. Past (a .text .now) (a .at) n x (l .i + 1)) k
+    (past-more (a .text .now) (a .at) (l .s) (so-far (l .name) (l .tasks) (l .s)) (l .i) (l .inv) (t .loop-test .taken) n (r .step .ensures) (d .before .before .if1 .left))
+
+is-whole-requires : tie.Need-is-whole-requires Inv-loop μ-loop
+is-whole-requires c κs = search needs
 
 sub-stopped-2 : tie.Need-sub-stopped-2 Inv-loop μ-loop
 sub-stopped-2 c = c .before .before .before .loop .inv .from
@@ -88,26 +147,15 @@ stopped-requires-2 : tie.Need-stopped-requires-2 Inv-loop μ-loop
 stopped-requires-2 c κs = search needs
 
 returns-2 : tie.Need-returns-2 Inv-loop μ-loop
-returns-2 c = c .stopped2 .ensures ∙ unended (c .before .before .before) (rw (ne-eqb _ 4 (c .before .if2 .taken)) refl)
+returns-2 c =
+    let w = c .before .before in
+    c .stopped2 .ensures ∙ unended (w .before) (sym (w .is-whole .ensures) ∙ not-true _ (c .before .if3 .taken))
 
-sub-stopped-3 : tie.Need-sub-stopped-3 Inv-loop μ-loop
-sub-stopped-3 c = c .before .before .before .before .before .before .loop .inv .from
-
-stopped-requires-3 : tie.Need-stopped-requires-3 Inv-loop μ-loop
-stopped-requires-3 c κs = search needs
+sub-t29 : tie.Need-sub-t29 Inv-loop μ-loop
+sub-t29 c = c .before .before .before .loop .inv .from
 
 returns-3 : tie.Need-returns-3 Inv-loop μ-loop
-returns-3 c =
-    let e2 = c .before .before .before .before in
-    c .stopped3 .ensures ∙ unended (e2 .before .before) (rw (eq-eqb _ 4 (e2 .if2 .left), c .before .if3 .taken) refl)
-
-sub-t15 : tie.Need-sub-t15 Inv-loop μ-loop
-sub-t15 c = c .before .before .before .before .before .before .loop .inv .from
-
-returns-4 : tie.Need-returns-4 Inv-loop μ-loop
-returns-4 c =
-    let e2 = c .before .before .before in
-    full (e2 .before .before) (rw (eq-eqb _ 4 (e2 .if2 .left), lt-ltb 0 _ (some _ (c .if3 .left))) refl)
+returns-3 c = whole (c .before .before) (sym (c .before .is-whole .ensures) ∙ not-false _ (c .if3 .left))
 
 pub scan-spec : {M : Type 1} → statement M
 scan-spec =
@@ -115,21 +163,26 @@ scan-spec =
     (tie.spec
     Inv-loop
     μ-loop
+    no-set-requires
     blank-requires
     loop-holds
-    shared-slice-read-step
+    shared-slice-read-b
     step-requires
     sub-stopped
     stopped-requires
     returns
+    add-byte-requires
+    ends-task-requires
+    cast-k
+    ended-task-requires
+    mul-tasks
+    array-set-from-tasks
     add-i
     loop-less
     loop-again
+    is-whole-requires
     sub-stopped-2
     stopped-requires-2
     returns-2
-    sub-stopped-3
-    stopped-requires-3
-    returns-3
-    sub-t15
-    returns-4)
+    sub-t29
+    returns-3)

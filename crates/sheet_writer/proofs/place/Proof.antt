@@ -3,10 +3,10 @@ use mathlib.Core.Path.{_≡_, sym, ap, _∙_}
 use mathlib.Core.List.{_++_}
 use Prim.Native.Nat.{_≤_}
 use native.Mathlib.Omega.{arith}
-use lib.ListN.{length, drop}
+use lib.ListN.{length, take, drop}
 use borrow.Author.Needs.{needs}
 use Rattle.tasks.proofs.Valid.{passed-valid}
-use Rattle.texts.proofs.PutLaws.{puts-length, puts-whole, puts-take}
+use Rattle.texts.proofs.PutLaws.{puts-whole, puts-take, puts-as}
 use Rattle.sheet_form.specs.Form.{longest}
 use Rattle.sheet_form.specs.Sets.{textOf}
 use Rattle.sheet_form.proofs.Lengths.{sheet-short}
@@ -18,11 +18,13 @@ use Rattle.sheet_writer.proofs.place.Tie as tie
 short : (b : tie.Start) → length (textOf (b .args .set)) ≤ longest
 short b = let l : length (b .args .set .name) ≡ 16 = search needs in sheet-short (b .args .set) l (passed-valid (b .args .set) (b .pre))
 
-abbrev Put : Type 0
-Put = tie.After-put-sheet
+-- and is what the page begins with
+module _ (c : tie.After-put-sheet) where
+  size : c .put-sheet .result ≡ length (textOf (c .before .before .before .args .set))
+  size = puts-whole (c .put-sheet .ensures) (omega (arith, short (c .before .before .before))) .0
 
-size : (c : Put) → c .put-sheet .result ≡ length (textOf (c .before .before .before .args .set))
-size c = puts-whole (c .put-sheet .ensures) (omega (arith, short (c .before .before .before))) .0
+  first : take (c .put-sheet .result) (c .put-sheet .last .0) ≡ textOf (c .before .before .before .args .set)
+  first = puts-take (c .put-sheet .ensures) (omega (arith, short (c .before .before .before)))
 
 slice-aggregate-put-sheet : tie.Need-slice-aggregate-put-sheet
 slice-aggregate-put-sheet c = search needs
@@ -31,31 +33,37 @@ put-sheet-requires : tie.Need-put-sheet-requires
 put-sheet-requires c κs = search needs
 
 cast-t9 : tie.Need-cast-t9
-cast-t9 c = omega (arith, size (c .before .before), short (c .before .before .before .before .before))
+cast-t9 c = search needs
 
 returns : tie.Need-returns
 returns c =
     let a = c .before .before .before .before .before .args in
     placed-short (textOf (a .set)) (a .buf .now) (c .before .before .put-sheet .result) (size (c .before .before)) (c .if1 .taken)
 
-slice-aggregate-copy : tie.Need-slice-aggregate-copy
-slice-aggregate-copy c = sym (puts-length (c .before .before .before .before .put-sheet .ensures))
+array-share-prefix-page : tie.Need-array-share-prefix-page
+array-share-prefix-page c = search needs
 
-copy-requires : tie.Need-copy-requires
-copy-requires c κs = (c .before .before .if1 .left, omega (arith, size (c .before .before .before .before), short (c .before .before .before .before .before .before .before), puts-length (c .before .before .before .before .put-sheet .ensures)))
+slice-aggregate-put-word : tie.Need-slice-aggregate-put-word
+slice-aggregate-put-word c = let p = c .before .before .before .before in size p ∙ sym (ap length (first p))
 
-cast-t16 : tie.Need-cast-t16
-cast-t16 c = omega (arith, size (c .before .before .before .before .before .before .before), short (c .before .before .before .before .before .before .before .before .before .before))
+put-word-requires : tie.Need-put-word-requires
+put-word-requires c κs = search needs
+
+cast-t15 : tie.Need-cast-t15
+cast-t15 c = search needs
 
 same-length : tie.Need-same-length
 same-length c = search needs
 
 returns-2 : tie.Need-returns-2
 returns-2 c =
-    let a = c .before .before .before .before .before .before .before .before .before .before .args in
-    let k = c .before .before .before .before .before .before .before .put-sheet in
-    let h = short (c .before .before .before .before .before .before .before .before .before .before) in
-    placed-fits (textOf (a .set)) (a .buf .now) (k .result) (size (c .before .before .before .before .before .before .before)) (c .before .before .copy .last .0) (c .before .before .before .before .before .if1 .left) (c .before .before .copy .ensures ∙ ap (λ x. x ++ drop (k .result) (a .buf .now)) (puts-take (k .ensures) (omega arith)))
+    let e = c .before .before .before .before .before in
+    let p = e .before .before in
+    let a = p .before .before .before .args in
+    let n = p .put-sheet .result in
+    let w = puts-as (c .before .before .put-word .ensures) (first p) in
+    placed-fits (textOf (a .set)) (a .buf .now) n (size p) _ (e .if1 .left)
+    (puts-whole w (omega (arith, size p, e .if1 .left)) .1 ∙ ap (λ k. textOf (a .set) ++ drop k (a .buf .now)) (sym (size p)))
 
 pub place-spec : {M : Type 1} → statement M
 place-spec =
@@ -65,8 +73,9 @@ place-spec =
     put-sheet-requires
     cast-t9
     returns
-    slice-aggregate-copy
-    copy-requires
-    cast-t16
+    array-share-prefix-page
+    slice-aggregate-put-word
+    put-word-requires
+    cast-t15
     same-length
     returns-2)

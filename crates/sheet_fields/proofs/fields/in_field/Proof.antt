@@ -29,11 +29,15 @@ past-end c =
 more-digit-requires : tie.Need-more-digit-requires
 more-digit-requires c κs = search needs
 
+move-to-requires : tie.Need-move-to-requires
+move-to-requires c κs = search needs
+
 returns : tie.Need-returns
 unfolding fieldOf
 returns c =
-    let a = c .before .before .args in
-    rw (c .before .more-digit .ensures, lt-ltb 0 (digit (a .s .at) (a .b)) (subst (λ n. 0 < n) (c .before .more-digit .ensures) (c .if1 .taken))) refl
+    let d = c .before .before in
+    let a = d .before .args in
+    rw (c .move-to .ensures, d .more-digit .ensures, lt-ltb 0 (digit (a .s .at) (a .b)) (subst (λ n. 0 < n) (d .more-digit .ensures) (c .before .if1 .taken))) refl
 
 blank-requires : tie.Need-blank-requires
 blank-requires c κs = search needs
@@ -82,6 +86,7 @@ in-field-spec =
     tie.close
     (tie.spec
     more-digit-requires
+    move-to-requires
     returns
     blank-requires
     returns-2

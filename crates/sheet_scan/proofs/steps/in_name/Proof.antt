@@ -11,27 +11,24 @@ use Rattle.sheet_scan.proofs.steps.in_name.Statement.{statement}
 use Rattle.sheet_scan.proofs.steps.in_name.Tie as tie
 
 -- what is left where the byte is no character
-past-character : (c : tie.Else1) → let a = c .before .before .before .args in nameOf (a .s) (a .b) ≡ cond (ltb 0 (a .s .at) && eqb (a .b) 10) (moved (a .s) atLine 0) (blankOf atFault)
+past-character : (c : tie.Else1) → let a = c .before .before .args in nameOf (a .s) (a .b) ≡ cond (ltb 0 (a .s .at) && eqb (a .b) 10) (moved (a .s) atLine 0) (blankOf atFault)
 unfolding nameOf
 past-character c = rw (sym (c .before .name-byte .ensures) ∙ c .if1 .left) refl
-
-cast-at : tie.Need-cast-at
-cast-at c = search needs
 
 name-byte-requires : tie.Need-name-byte-requires
 name-byte-requires c κs = search needs
 
-element-write-set : tie.Need-element-write-set
-element-write-set c = search needs
+add-move-to : tie.Need-add-move-to
+add-move-to c = search needs
 
-add-r : tie.Need-add-r
-add-r c = search needs
+move-to-requires : tie.Need-move-to-requires
+move-to-requires c κs = search needs
 
 returns : tie.Need-returns
 unfolding nameOf
 returns c =
-    let c3 = c .before .before .before in
-    rw (sym (c3 .before .name-byte .ensures) ∙ c3 .if1 .taken, lt-ltb _ 16 (c .before .before .if2 .taken)) refl
+    let c4 = c .before .before .before .before in
+    rw (c .move-to .ensures, sym (c4 .before .name-byte .ensures) ∙ c4 .if1 .taken, lt-ltb _ 16 (c .before .before .if2 .taken)) refl
 
 blank-requires : tie.Need-blank-requires
 blank-requires c κs = search needs
@@ -40,16 +37,21 @@ returns-2 : tie.Need-returns-2
 unfolding nameOf
 returns-2 c =
     let c3 = c .before .before .before in
-    rw (c .blank .ensures, sym (c3 .name-byte .ensures) ∙ c .before .before .if1 .taken, le-ltb _ 16 (c .before .if2 .left)) refl
+    rw (c .blank .ensures, sym (c3 .before .name-byte .ensures) ∙ c3 .if1 .taken, le-ltb _ 16 (c .before .if2 .left)) refl
 
 blank-requires-2 : tie.Need-blank-requires-2
 blank-requires-2 c κs = search needs
 
 returns-3 : tie.Need-returns-3
-returns-3 c = rw (c .blank2 .ensures, past-character (c .before .before), c .before .if3 .taken) refl
+returns-3 c = rw (c .blank2 .ensures, past-character (c .before .before .before), c .before .if3 .taken) refl
+
+move-to-requires-2 : tie.Need-move-to-requires-2
+move-to-requires-2 c κs = search needs
 
 returns-4 : tie.Need-returns-4
-returns-4 c = rw (past-character (c .before .before), lt-ltb 0 _ (some _ (c .before .if3 .left)), eq-eqb _ 10 (c .if4 .taken)) refl
+returns-4 c =
+    let e3 = c .before .before in
+    rw (c .move-to2 .ensures, past-character (e3 .before .before), lt-ltb 0 _ (some _ (e3 .if3 .left)), eq-eqb _ 10 (c .before .if4 .taken)) refl
 
 blank-requires-3 : tie.Need-blank-requires-3
 blank-requires-3 c κs = search needs
@@ -57,21 +59,21 @@ blank-requires-3 c κs = search needs
 returns-5 : tie.Need-returns-5
 returns-5 c =
     let e3 = c .before .before in
-    rw (c .blank3 .ensures, past-character (e3 .before), lt-ltb 0 _ (some _ (e3 .if3 .left)), ne-eqb _ 10 (c .before .if4 .left)) refl
+    rw (c .blank3 .ensures, past-character (e3 .before .before), lt-ltb 0 _ (some _ (e3 .if3 .left)), ne-eqb _ 10 (c .before .if4 .left)) refl
 
 pub in-name-spec : {M : Type 1} → statement M
 in-name-spec =
     tie.close
     (tie.spec
-    cast-at
     name-byte-requires
-    element-write-set
-    add-r
+    add-move-to
+    move-to-requires
     returns
     blank-requires
     returns-2
     blank-requires-2
     returns-3
+    move-to-requires-2
     returns-4
     blank-requires-3
     returns-5)

@@ -59,16 +59,22 @@ add-n c =
     let c6 = c5 .before in
     omega (arith, word-short (c6 .args .s .mode), c5 .word-length .ensures)
 
+move-to-requires : tie.Need-move-to-requires
+move-to-requires c κs = search needs
+
 returns-3 : tie.Need-returns-3
 unfolding wordOf
 returns-3 c =
-    let e2 = c .before .before in
+    let e2 = c .before .before .before in
     let e1 = e2 .before .before in
     let s = e1 .before .before .before .args .s in
-    rw (inside e1, matches e2, lt-ltb (s .at + 1) (length (wordAt (s .mode))) (subst (λ n. s .at + 1 < n) (e1 .before .before .word-length .ensures) (c .if3 .taken))) refl
+    rw (c .move-to .ensures, inside e1, matches e2, lt-ltb (s .at + 1) (length (wordAt (s .mode))) (subst (λ n. s .at + 1 < n) (e1 .before .before .word-length .ensures) (c .before .if3 .taken))) refl
+
+move-to-requires-2 : tie.Need-move-to-requires-2
+move-to-requires-2 c κs = search needs
 
 returns-4 : tie.Need-returns-4
-returns-4 c = rw (ended (c .before .before), eq-eqb _ 0 (c .if4 .taken)) refl
+returns-4 c = rw (c .move-to2 .ensures, ended (c .before .before .before), eq-eqb _ 0 (c .before .if4 .taken)) refl
 
 returns-5 : tie.Need-returns-5
 returns-5 c =
@@ -91,7 +97,9 @@ in-word-spec =
     blank-requires-2
     returns-2
     add-n
+    move-to-requires
     returns-3
+    move-to-requires-2
     returns-4
     returns-5
     returns-6)
