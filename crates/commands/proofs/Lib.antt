@@ -3,4 +3,5 @@ pub mod WordLaws
 pub mod LineLaws
 pub mod Ranges
 pub mod Mangled
+pub mod Taken
 pub mod Rows

@@ -2,7 +2,7 @@
 use mathlib.Core.Bool.{Bool, true, false, not, _&&_, _||_, cond}
 use mathlib.Core.List.{List, [], _∷_}
 use mathlib.Core.Path.{_≡_, refl, sym, ap, ap₂, _∙_}
-use Prim.Native.Nat.{ℕ, suc, _+_, _-_, _/_, _<_, _≤_, min}
+use Prim.Native.Nat.{ℕ, _+_, _-_, _/_, _<_, _≤_, min}
 use native.Mathlib.Numerals.{add-one}
 use native.Mathlib.Omega.{arith}
 use borrow.Author.Tests.{eqb-true, eqb-false, eq-eqb, ne-eqb, leb-true, le-leb, ltb-true, lt-ltb, not-true}
@@ -27,8 +27,11 @@ isFit (Fits vs) = true
 
 -- TRUTH VALUES
 
+pub never : {A : Type 0} → _≡_ {A = ℕ} 0 1 → A
+never z = let n : ⊥ = omega arith in absurd n
+
 pub clash : {A : Type 0} → _≡_ {A = Bool} true false → A
-clash h = let z : _≡_ {A = ℕ} 0 1 = ap (λ b. cond b 0 1) h in let n : ⊥ = omega arith in absurd n
+clash h = never (ap (λ b. cond b 0 1) h)
 
 pub and-left : (a b : Bool) → (a && b) ≡ true → a ≡ true
 and-left true b h = refl
@@ -123,7 +126,7 @@ named-as h b v e = step (same b (bytes "table")) (same b (bytes "work")) (same b
     step false true f x e = let z : _≡_ {A = ℕ} 1 v = cc in rw (← z)
     step false false true x e = let z : _≡_ {A = ℕ} 2 v = cc in rw (← z)
     step false false false true e = let z : _≡_ {A = ℕ} 3 v = cc in rw (← z)
-    step false false false false e = let z : _≡_ {A = ℕ} 0 1 = cc in let n : ⊥ = omega arith in absurd n
+    step false false false false e = never (cc)
 
 named-most : (b : List ℕ) (v : ℕ) → bufferOf b ≡ Value v → mostOf v ≡ mostNamed b
 unfolding mostOf mostNamed
@@ -248,7 +251,7 @@ number-is lo end w v e = step (isNumber w && within lo end (decimal w)) e
   where
     step : (t : Bool) → foundIf t (decimal w) ≡ Value v → v ≡ decimal w
     step true h = cc
-    step false h = let z : _≡_ {A = ℕ} 0 1 = cc in let n : ⊥ = omega arith in absurd n
+    step false h = never (cc)
 
 module _ (l : Lengths) (vs : Values) (f w : List ℕ) (v : ℕ) (e : valueOf l vs f w ≡ Value v) where
   value-buffer : eqb (getD f 0 0) 85 ≡ true → bufferOf w ≡ Value v

@@ -12,7 +12,7 @@ use Rattle.commands.specs.declared.lines.Parsed.the-variants.{Mangled, T
 use Rattle.commands.specs.Texts.{bytes, same}
 use Rattle.commands.specs.Words.{isNumber, isBytes, decimal}
 use Rattle.commands.specs.Buffers.{bufferOf}
-use Rattle.commands.specs.Forms.{asksBytes}
+use Rattle.commands.specs.Forms.{isLetter, asksBytes}
 use Rattle.commands.specs.Lines.{words, rows}
 
 abbrev pub some : (List ℕ → Bool) → List (List ℕ) → Bool
@@ -31,7 +31,7 @@ isMangled (Taken c) = false
 unfoldable pub hasForm : List ℕ → List ℕ → Bool
 hasForm f w =
     cond (leb 97 (getD f 0 0)) (same f w)
-    (cond (eqb (getD f 0 0) 85) (isFound (bufferOf w))
+    (cond (isLetter (getD f 0 0) (bytes "U")) (isFound (bufferOf w))
     (cond (asksBytes (getD f 0 0)) (isBytes w && ltb 0 (length w)) (isNumber w)))
 
 -- each word has its form, and there are as many
@@ -89,10 +89,7 @@ lengthNamed l b =
     (cond (same b (bytes "work")) (l .work)
     (cond (same b (bytes "file")) (l .file) (l .text)))
 
--- a form's letter, and the number that a word says: of bytes, how many they are
-abbrev pub isLetter : ℕ → List ℕ → Bool
-isLetter f s = eqb f (getD s 0 0)
-
+-- the number that a word says: of bytes, how many they are
 abbrev pub numberOf : ℕ → List ℕ → ℕ
 numberOf f w = cond (asksBytes f) (length w / 2) (decimal w)
 
