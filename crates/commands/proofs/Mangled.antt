@@ -2,92 +2,31 @@
 use mathlib.Core.Bool.{Bool, true, false, not, _&&_, _||_, cond}
 use mathlib.Core.List.{List, [], _∷_}
 use mathlib.Core.Path.{_≡_, refl, ap, ap₂, sym, _∙_}
-use Prim.Native.Nat.{ℕ, suc, _+_, _/_, _<_, _≤_}
+use Prim.Native.Nat.{ℕ, suc, _+_}
 use native.Mathlib.Omega.{arith}
-use borrow.Author.Tests.{eq-eqb, ne-eqb, eqb-true, lt-ltb, leb-true}
-use lib.Dec.{eqb, leb, ltb}
+use borrow.Author.Tests.{eq-eqb, ne-eqb, eqb-true, not-true}
+use lib.Dec.{eqb, leb}
 use lib.ListN.{length, getD, drop}
 use Rattle.commands.specs.declared.buffers.Lengths.{Lengths}
-use Rattle.commands.specs.declared.forms.Values.{Values}
-use Rattle.commands.specs.declared.numbers.Found.{Found}
-use Rattle.commands.specs.declared.numbers.Found.the-variants.{Nothing, Value}
 use Rattle.commands.specs.declared.lines.Parsed.the-variants.{Mangled}
 use Rattle.commands.specs.declared.lines.Tried.{Tried}
 use Rattle.commands.specs.declared.lines.Tried.the-variants.{Unfit, Fits}
 use Rattle.commands.specs.Texts.{same, before, parts, inFront}
-use Rattle.commands.specs.Words.{foundIf, isNumber, isBytes, numberIn, bytesIn, wellBegun}
+use Rattle.commands.specs.Words.{each, digit, isNumber, isBytes, wellBegun, hexDigit}
 use Rattle.commands.specs.Buffers.{bufferOf}
-use Rattle.commands.specs.Forms.{asksBytes, rangeOf, bufferRangeOf, letterValue, valueOf, kept, noValues}
-use Rattle.commands.specs.Lines.{words, rows, fit, fitRows, parseOf, onValue, takenOr}
+use Rattle.commands.specs.Forms.{asksBytes, noValues}
+use Rattle.commands.specs.Lines.{page, words, rows, fit, fitRows, parseOf, takenOr}
+use Rattle.commands.specs.Mangled.{some, endsInSpace, twoTogether, isMangled, hasForm, formed, named, counted, tooLong, badlySpaced, noCommand, wrongNumber, badForm, ranged, outOfRange, oneHolds}
 use Rattle.commands.proofs.TextLaws.{some-part}
-use Rattle.commands.specs.Mangled.{some, endsInSpace, twoTogether, isFound, isFit, isMangled, hasForm, formed, named, counted, tooLong, badlySpaced, noCommand, wrongNumber, badForm, outOfRange, oneHolds}
+use Rattle.commands.proofs.Ranges.{isFit, clash, and-left, and-right, wellMade, fit-exactly, rows-made}
 
-and-left : (a b : Bool) → (a && b) ≡ true → a ≡ true
-and-left true b h = refl
-and-left false b h = h
-
-and-right : (a b : Bool) → (a && b) ≡ true → b ≡ true
-and-right true b h = h
-and-right false b h = let z : _≡_ {A = ℕ} 0 1 = cc in let w : ⊥ = omega arith in absurd w
-
--- A VALUE HAS ITS FORM
-
-found-if : (b : Bool) (v : ℕ) → isFound (foundIf b v) ≡ true → b ≡ true
-found-if true v h = refl
-found-if false v h = h
-
-number-form : (lo end : ℕ) (w : List ℕ) → isFound (numberIn lo end w) ≡ true → isNumber w ≡ true
-unfolding numberIn
-number-form lo end w h = and-left _ _ (found-if _ _ h)
-
-bytes-form : (lo end : ℕ) (w : List ℕ) → 1 ≤ lo → isFound (bytesIn lo end w) ≡ true → (isBytes w && ltb 0 (length w)) ≡ true
-unfolding bytesIn
-bytes-form lo end w l h =
-    let g = found-if _ _ h in
-    let n : lo ≤ length w / 2 = leb-true _ _ (and-left _ _ (and-right (isBytes w) _ g)) in
-    let p : 0 < length w = omega arith in
-    simp (and-left (isBytes w) _ g, lt-ltb _ _ p)
-
--- N and T take at least one byte
-asks-some : (l : Lengths) (vs : Values) (f : ℕ) → asksBytes f ≡ true → 1 ≤ rangeOf l vs f .lo
-unfolding asksBytes rangeOf bufferRangeOf
-asks-some l vs f h = step (eqb f 78) refl
-  where
-    step : (t : Bool) → eqb f 78 ≡ t → 1 ≤ rangeOf l vs f .lo
-    step true e = rw (eqb-true f 78 e) (omega arith)
-    step false e = let g : eqb f 84 ≡ true = simp e at h in rw (eqb-true f 84 g) (omega arith)
-
-pub value-form : (l : Lengths) (vs : Values) (f w : List ℕ) → isFound (valueOf l vs f w) ≡ true → hasForm f w ≡ true
-unfolding valueOf letterValue hasForm
-value-form l vs f w h = step (leb 97 (getD f 0 0)) (eqb (getD f 0 0) 85) (asksBytes (getD f 0 0)) refl h
-  where
-    step : (a b d : Bool) → asksBytes (getD f 0 0) ≡ d →
-        isFound (cond a (foundIf (same f w) 0) (cond b (bufferOf w) (cond d (bytesIn (rangeOf l vs (getD f 0 0) .lo) (rangeOf l vs (getD f 0 0) .end) w) (numberIn (rangeOf l vs (getD f 0 0) .lo) (rangeOf l vs (getD f 0 0) .end) w)))) ≡ true →
-        cond a (same f w) (cond b (isFound (bufferOf w)) (cond d (isBytes w && ltb 0 (length w)) (isNumber w))) ≡ true
-    step true b d e g = found-if _ _ g
-    step false true d e g = g
-    step false false true e g = bytes-form _ _ w (asks-some l vs _ e) g
-    step false false false e g = number-form _ _ w g
-
--- A LINE THAT FITS
-
-pub fit-formed : (l : Lengths) (vs : Values) (place : ℕ) (fs ws : List (List ℕ)) → isFit (fit l vs place fs ws) ≡ true → formed fs ws ≡ true
-unfolding fit formed
-fit-formed l vs place [] [] h = refl
-fit-formed l vs place [] (w ∷ ws) h = h
-fit-formed l vs place (f ∷ fs) [] h = h
-fit-formed l vs place (f ∷ fs) (w ∷ ws) h = step (valueOf l vs f w) refl (λ v. fit-formed l (kept vs place v) (place + 1) fs ws) h
-  where
-    step : (x : Found) → valueOf l vs f w ≡ x → ((v : ℕ) → isFit (fit l (kept vs place v) (place + 1) fs ws) ≡ true → formed fs ws ≡ true) →
-        isFit (onValue x (λ v. fit l (kept vs place v) (place + 1) fs ws)) ≡ true → (hasForm f w && formed fs ws) ≡ true
-    step Nothing e k g = let z : _≡_ {A = ℕ} 0 1 = cc in let n : ⊥ = omega arith in absurd n
-    step (Value v) e k g = simp (value-form l vs f w (ap isFound e), k v g)
+-- A LINE THAT HAS A ROW'S FORMS
 
 formed-number : (fs ws : List (List ℕ)) → formed fs ws ≡ true → length fs ≡ length ws
 unfolding formed
 formed-number [] [] h = refl
-formed-number [] (w ∷ ws) h = let z : _≡_ {A = ℕ} 0 1 = cc in let n : ⊥ = omega arith in absurd n
-formed-number (f ∷ fs) [] h = let z : _≡_ {A = ℕ} 0 1 = cc in let n : ⊥ = omega arith in absurd n
+formed-number [] (w ∷ ws) h = clash (sym h)
+formed-number (f ∷ fs) [] h = clash (sym h)
 formed-number (f ∷ fs) (w ∷ ws) h = ap suc (formed-number fs ws (and-right (hasForm f w) _ h))
 
 -- an empty word has no form
@@ -109,9 +48,9 @@ form-some (x ∷ f) = step (leb 97 x) (eqb x 85) (asksBytes x)
 formed-spaced : (fs ws : List (List ℕ)) → formed fs ws ≡ true → some (λ w. eqb (length w) 0) ws ≡ false
 unfolding formed
 formed-spaced [] [] h = refl
-formed-spaced [] (w ∷ ws) h = let z : _≡_ {A = ℕ} 0 1 = cc in let n : ⊥ = omega arith in absurd n
+formed-spaced [] (w ∷ ws) h = clash (sym h)
 formed-spaced (f ∷ fs) [] h = refl
-formed-spaced (f ∷ fs) ([] ∷ ws) h = let e = form-some f in let z : _≡_ {A = ℕ} 0 1 = cc (and-left (hasForm f []) _ h) in let n : ⊥ = omega arith in absurd n
+formed-spaced (f ∷ fs) ([] ∷ ws) h = clash (sym (and-left (hasForm f []) _ h) ∙ form-some f)
 formed-spaced (f ∷ fs) ((b ∷ w) ∷ ws) h =
     let n : length (b ∷ w) ≡ 0 → ⊥ = λ e. omega arith in
     simp (ne-eqb _ _ n) (formed-spaced fs ws (and-right (hasForm f (b ∷ w)) _ h))
@@ -119,7 +58,7 @@ formed-spaced (f ∷ fs) ((b ∷ w) ∷ ws) h =
 formed-counted : (fs ws : List (List ℕ)) → formed (fs) (ws) ≡ true → (length fs ≡ 0 → ⊥) → counted fs ws ≡ true
 unfolding formed
 formed-counted [] ws h n = absurd (n refl)
-formed-counted (f ∷ fs) [] h n = let z : _≡_ {A = ℕ} 0 1 = cc in let m : ⊥ = omega arith in absurd m
+formed-counted (f ∷ fs) [] h n = clash (sym h)
 formed-counted (f ∷ fs) (w ∷ ws) h n = simp (and-left (hasForm f w) _ h, eq-eqb _ _ (formed-number (f ∷ fs) (w ∷ ws) h))
 
 -- THE ROWS
@@ -137,44 +76,134 @@ module _ (f g : List ℕ → Bool) (h : (x : List ℕ) → f x ≡ true → g x 
       step true p q k = simp (h x p)
       step false p q k = simp (k q) (or-true (g x))
 
-module _ (l : Lengths) (ws : List (List ℕ)) where
-  -- the row fits
-  abbrev fits : List ℕ → Bool
-  fits row = isFit (fit l noValues 0 (words row) ws)
+some-same : (t f g : List ℕ → Bool) → ((x : List ℕ) → t x ≡ true → f x ≡ g x) → (l : List (List ℕ)) → each t l ≡ true → some f l ≡ some g l
+some-same t f g h [] e = refl
+some-same t f g h (x ∷ l) e = ap₂ _||_ (h x (and-left _ _ e)) (some-same t f g h l (and-right (t x) _ e))
 
-  rows-mangled : (kind : ℕ) (rs : List (List ℕ)) → isMangled (fitRows l kind rs ws) ≡ not (some fits rs)
+module _ (l : Lengths) (ws : List (List ℕ)) where
+  -- the words have the row's forms, and are in its ranges
+  abbrev good : List ℕ → Bool
+  good row = formed (words row) ws && ranged l (words row) ws
+
+  unfit-mangled : (kind : ℕ) (rs : List (List ℕ)) → isMangled (fitRows l kind rs ws) ≡ not (some (λ row. isFit (fit l noValues 0 (words row) ws)) rs)
   unfolding fitRows
-  rows-mangled kind [] = refl
-  rows-mangled kind (row ∷ rs) = step (fit l noValues 0 (words row) ws) (rows-mangled (kind + 1) rs)
+  unfit-mangled kind [] = refl
+  unfit-mangled kind (row ∷ rs) = step (fit l noValues 0 (words row) ws) (unfit-mangled (kind + 1) rs)
     where
-      step : (x : Tried) → isMangled (fitRows l (kind + 1) rs ws) ≡ not (some fits rs) → isMangled (takenOr kind x (fitRows l (kind + 1) rs ws)) ≡ not (isFit x || some fits rs)
+      step : (x : Tried) → isMangled (fitRows l (kind + 1) rs ws) ≡ not (some (λ row. isFit (fit l noValues 0 (words row) ws)) rs) →
+          isMangled (takenOr kind x (fitRows l (kind + 1) rs ws)) ≡ not (isFit x || some (λ row. isFit (fit l noValues 0 (words row) ws)) rs)
       step Unfit k = k
       step (Fits vs) k = refl
 
-  row-formed : (row : List ℕ) → fits row ≡ true → formed (words row) ws ≡ true
-  row-formed row h = fit-formed l noValues 0 (words row) ws h
+  rows-mangled : isMangled (fitRows l 0 rows ws) ≡ not (some good rows)
+  rows-mangled =
+      unfit-mangled 0 rows
+      ∙ ap not (some-same (λ row. wellMade (words row)) (λ row. isFit (fit l noValues 0 (words row) ws)) good (λ row h. fit-exactly l (words row) ws h) rows rows-made)
 
-  row-counted : (row : List ℕ) → fits row ≡ true → counted (words row) ws ≡ true
+  row-formed : (row : List ℕ) → good row ≡ true → formed (words row) ws ≡ true
+  row-formed row h = and-left _ _ h
+
+  row-counted : (row : List ℕ) → good row ≡ true → counted (words row) ws ≡ true
   row-counted row h = formed-counted (words row) ws (row-formed row h) (λ e. omega (arith, ap length (some-part 32 row)))
 
-  row-named : (row : List ℕ) → fits row ≡ true → named (words row) ws ≡ true
+  row-named : (row : List ℕ) → good row ≡ true → named (words row) ws ≡ true
   row-named row h = and-left _ _ (row-counted row h)
 
-  rows-spaced : (rs : List (List ℕ)) → some fits rs ≡ true → some (λ w. eqb (length w) 0) ws ≡ false
-  rows-spaced [] e = let z : _≡_ {A = ℕ} 0 1 = cc in let n : ⊥ = omega arith in absurd n
-  rows-spaced (row ∷ rs) e = step (fits row) refl e (rows-spaced rs)
+  rows-spaced : (rs : List (List ℕ)) → some good rs ≡ true → some (λ w. eqb (length w) 0) ws ≡ false
+  rows-spaced [] e = clash (sym e)
+  rows-spaced (row ∷ rs) e = step (good row) refl e (rows-spaced rs)
     where
-      step : (t : Bool) → fits row ≡ t → (t || some fits rs) ≡ true → (some fits rs ≡ true → some (λ w. eqb (length w) 0) ws ≡ false) → some (λ w. eqb (length w) 0) ws ≡ false
+      step : (t : Bool) → good row ≡ t → (t || some good rs) ≡ true → (some good rs ≡ true → some (λ w. eqb (length w) 0) ws ≡ false) → some (λ w. eqb (length w) 0) ws ≡ false
       step true p q k = formed-spaced (words row) ws (row-formed row p)
       step false p q k = k q
+
+-- NO LINE HAS THE FORMS OF TWO ROWS
+
+same-is : (a b : List ℕ) → same a b ≡ true → a ≡ b
+unfolding same
+same-is [] [] h = refl
+same-is [] (y ∷ b) h = clash (sym h)
+same-is (x ∷ a) [] h = clash (sym h)
+same-is (x ∷ a) (y ∷ b) h = ap₂ _∷_ (eqb-true x y (and-left _ _ h)) (same-is a b (and-right (eqb x y) _ h))
+
+-- f is a fixed word, and has not the other form
+abbrev other : List ℕ → List ℕ → Bool
+other f g = leb 97 (getD f 0 0) && not (hasForm g f)
+
+fixed-form : (f w : List ℕ) → leb 97 (getD f 0 0) ≡ true → hasForm f w ≡ true → f ≡ w
+unfolding hasForm
+fixed-form f w e h = same-is f w (simp e at h)
+
+no-both : (f g w : List ℕ) → other f g ≡ true → hasForm f w ≡ true → hasForm g w ≡ true → ⊥
+no-both f g w h p q =
+    clash (sym q ∙ ap (hasForm g) (sym (fixed-form f w (and-left _ _ h) p)) ∙ not-true _ (and-right (leb 97 (getD f 0 0)) _ h))
+
+abbrev apart : List (List ℕ) → List (List ℕ) → Bool
+apart [] [] = false
+apart [] (g ∷ gs) = true
+apart (f ∷ fs) [] = true
+apart (f ∷ fs) (g ∷ gs) = other f g || (other g f || apart fs gs)
+
+formed-apart : (fs gs ws : List (List ℕ)) → apart fs gs ≡ true → formed fs ws ≡ true → formed gs ws ≡ true → ⊥
+unfolding formed
+formed-apart [] [] ws h p q = clash (sym h)
+formed-apart [] (g ∷ gs) [] h p q = clash (sym q)
+formed-apart [] (g ∷ gs) (w ∷ ws) h p q = clash (sym p)
+formed-apart (f ∷ fs) [] [] h p q = clash (sym p)
+formed-apart (f ∷ fs) [] (w ∷ ws) h p q = clash (sym q)
+formed-apart (f ∷ fs) (g ∷ gs) [] h p q = clash (sym p)
+formed-apart (f ∷ fs) (g ∷ gs) (w ∷ ws) h p q = step (other f g) (other g f) refl refl h (formed-apart fs gs ws)
+  where
+    step : (t u : Bool) → other f g ≡ t → other g f ≡ u → (t || (u || apart fs gs)) ≡ true → (apart fs gs ≡ true → formed fs ws ≡ true → formed gs ws ≡ true → ⊥) → ⊥
+    step true u e d r k = no-both f g w e (and-left _ _ p) (and-left _ _ q)
+    step false true e d r k = no-both g f w d (and-left _ _ q) (and-left _ _ p)
+    step false false e d r k = k r (and-right (hasForm f w) _ p) (and-right (hasForm g w) _ q)
+
+abbrev allApart : List (List ℕ) → Bool
+allApart [] = true
+allApart (row ∷ rs) = each (λ q. apart (words row) (words q)) rs && allApart rs
+
+rows-apart : allApart rows ≡ true
+unfolding page parts hasForm same bufferOf asksBytes isBytes isNumber wellBegun digit hexDigit
+rows-apart = refl
+
+module _ (l : Lengths) (ws : List (List ℕ)) where
+  abbrev outside : List ℕ → Bool
+  outside row = formed (words row) ws && not (ranged l (words row) ws)
+
+  alone : (row : List ℕ) (t : List ℕ → Bool) → formed (words row) ws ≡ true → (rs : List (List ℕ)) → each (λ q. apart (words row) (words q)) rs ≡ true →
+      some (λ q. formed (words q) ws && t q) rs ≡ false
+  alone row t p [] h = refl
+  alone row t p (q ∷ rs) h = step (formed (words q) ws) refl (alone row t p rs (and-right (apart (words row) (words q)) _ h))
+    where
+      step : (x : Bool) → formed (words q) ws ≡ x → some (λ q. formed (words q) ws && t q) rs ≡ false → ((x && t q) || some (λ q. formed (words q) ws && t q) rs) ≡ false
+      step true e k = absurd (formed-apart (words row) (words q) ws (and-left _ _ h) p e)
+      step false e k = k
+
+  none-outside : (rs : List (List ℕ)) → allApart rs ≡ true → some (good l ws) rs ≡ true → some outside rs ≡ false
+  none-outside [] h g = refl
+  none-outside (row ∷ rs) h g = step (formed (words row) ws) (ranged l (words row) ws) refl g (none-outside rs (and-right (each (λ q. apart (words row) (words q)) rs) _ h))
+    where
+      step : (x y : Bool) → formed (words row) ws ≡ x → ((x && y) || some (good l ws) rs) ≡ true → (some (good l ws) rs ≡ true → some outside rs ≡ false) →
+          ((x && not y) || some outside rs) ≡ false
+      step true true e g k = alone row (λ q. not (ranged l (words q) ws)) e rs (and-left _ _ h)
+      step true false e g k = clash (sym g ∙ alone row (λ q. ranged l (words q) ws) e rs (and-left _ _ h))
+      step false y e g k = k g
+
+  some-outside : (rs : List (List ℕ)) → some (λ row. formed (words row) ws) rs ≡ true → some (good l ws) rs ≡ false → some outside rs ≡ true
+  some-outside [] h g = h
+  some-outside (row ∷ rs) h g = step (formed (words row) ws) (ranged l (words row) ws) h g (some-outside rs)
+    where
+      step : (x y : Bool) → (x || some (λ row. formed (words row) ws) rs) ≡ true → ((x && y) || some (good l ws) rs) ≡ false →
+          (some (λ row. formed (words row) ws) rs ≡ true → some (good l ws) rs ≡ false → some outside rs ≡ true) → ((x && not y) || some outside rs) ≡ true
+      step true true h g k = clash g
+      step true false h g k = refl
+      step false y h g k = k h g
 
 -- RULE 2: NO WORD IS EMPTY
 
 abbrev none : List ℕ → Bool
 none w = eqb (length w) 0
-
-clash : {A : Type 0} → _≡_ {A = Bool} true false → A
-clash h = let z : _≡_ {A = ℕ} 0 1 = ap (λ b. cond b 0 1) h in let n : ⊥ = omega arith in absurd n
 
 or-none : (a b : Bool) → (a || b) ≡ false → b ≡ false
 or-none true b h = clash h
@@ -229,25 +258,29 @@ well-spaced l h =
     let r = inside l (rest-none l h) in
     simp (b .0, b .1, r .0, r .1)
 
--- a line that fits no row has the wrong forms, or is out of range
-others : (a b c d : Bool) → true ≡ (a || (b || (c || (d || (not d && true)))))
-others true b c d = refl
-others false true c d = refl
-others false false true d = refl
-others false false false true = refl
-others false false false false = refl
+or-last : (a b c d : Bool) → d ≡ true → true ≡ (a || (b || (c || d)))
+or-last true b c d h = refl
+or-last false true c d h = refl
+or-last false false true d h = refl
+or-last false false false d h = sym h
 
 -- a line is mangled exactly when one of the six holds
 pub mangled-exactly : (l : Lengths) (line : List ℕ) → isMangled (parseOf l line) ≡ oneHolds l line
 unfolding parseOf
 mangled-exactly l line = step (tooLong line)
   where
-    fitting : (t : Bool) → some (fits l (words line)) rows ≡ t →
+    -- a line that has a row's forms and is not good is outside a range
+    unranged : (t : Bool) → some (λ row. formed (words row) (words line)) rows ≡ t → some (good l (words line)) rows ≡ false → (not t || outOfRange l line) ≡ true
+    unranged true e h = some-outside l (words line) rows e h
+    unranged false e h = refl
+
+    fitting : (t : Bool) → some (good l (words line)) rows ≡ t →
         not t ≡ (badlySpaced line || (noCommand line || (wrongNumber line || (badForm line || outOfRange l line))))
     fitting true e =
-        simp (well-spaced line (rows-spaced l (words line) rows e), some-more _ _ (row-named l (words line)) rows e, some-more _ _ (row-counted l (words line)) rows e, some-more _ _ (row-formed l (words line)) rows e, e)
-    fitting false e = simp e (others (badlySpaced line) (noCommand line) (wrongNumber line) (badForm line))
+        simp (well-spaced line (rows-spaced l (words line) rows e), some-more _ _ (row-named l (words line)) rows e, some-more _ _ (row-counted l (words line)) rows e, some-more _ _ (row-formed l (words line)) rows e, none-outside l (words line) rows rows-apart e)
+    fitting false e =
+        or-last (badlySpaced line) (noCommand line) (wrongNumber line) (badForm line || outOfRange l line) (unranged (some (λ row. formed (words row) (words line)) rows) refl e)
 
     step : (t : Bool) → isMangled (cond t Mangled (fitRows l 0 rows (words line))) ≡ (t || (badlySpaced line || (noCommand line || (wrongNumber line || (badForm line || outOfRange l line)))))
     step true = refl
-    step false = rows-mangled l (words line) 0 rows ∙ fitting (some (fits l (words line)) rows) refl
+    step false = rows-mangled l (words line) ∙ fitting (some (good l (words line)) rows) refl

@@ -115,7 +115,7 @@ byte-low high = step (eqb high 16)
     step false = refl
 
 pub byte-beyond : (w : List ℕ) (k : ℕ) → length w / 2 ≤ k → byteAt w k ≡ 0
-unfolding byteAt hexDigit
+unfolding byteAt hexDigit digit
 byte-beyond w k h =
     let b : length w ≤ 2 * k + 1 = omega arith in
     rw (List·getD-eq-default w 0 {n = 2 * k + 1} b) (byte-low _)

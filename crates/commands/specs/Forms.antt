@@ -11,9 +11,13 @@ use Rattle.commands.specs.declared.buffers.Lengths.{Lengths}
 use Rattle.commands.specs.declared.forms.Range.{Range}
 use Rattle.commands.specs.declared.forms.Values.{Values}
 use Rattle.commands.specs.declared.numbers.Found.{Found}
-use Rattle.commands.specs.Texts.{same}
+use Rattle.commands.specs.Texts.{bytes, same}
 use Rattle.commands.specs.Words.{foundIf, numberIn, bytesIn}
 use Rattle.commands.specs.Buffers.{lengthOf, mostOf, bufferOf}
+
+-- a form's first byte is that letter
+abbrev pub isLetter : ℕ → List ℕ → Bool
+isLetter f s = eqb f (getD s 0 0)
 
 -- the numbers from lo on and below n
 abbrev pub upTo : ℕ → ℕ → Range
@@ -23,26 +27,26 @@ upTo lo n = record { lo = lo; end = n }
 -- T is 1 to 125 bytes, and the new length at most 1,200; any other capital takes nothing
 unfoldable pub bufferRangeOf : Lengths → Values → ℕ → Range
 bufferRangeOf l vs f =
-    cond (eqb f 76) (upTo 0 (mostOf (vs .first) + 1))
-    (cond (eqb f 79) (upTo 0 (lengthOf l (vs .first)))
-    (cond (eqb f 67) (upTo 1 (min 256 (lengthOf l (vs .first) - vs .second) + 1))
-    (cond (eqb f 84) (upTo 1 (min 125 (1200 - l .text) + 1))
+    cond (isLetter f (bytes "L")) (upTo 0 (mostOf (vs .first) + 1))
+    (cond (isLetter f (bytes "O")) (upTo 0 (lengthOf l (vs .first)))
+    (cond (isLetter f (bytes "C")) (upTo 1 (min 256 (lengthOf l (vs .first) - vs .second) + 1))
+    (cond (isLetter f (bytes "T")) (upTo 1 (min 125 (1200 - l .text) + 1))
     (upTo 1 0))))
 
 -- I is 1 to 7; F is 0 or 1; B is 0 to 255; H is 0 to 65,535; W is 0 to 4,294,967,295; N is exactly 16 bytes
 unfoldable pub rangeOf : Lengths → Values → ℕ → Range
 rangeOf l vs f =
-    cond (eqb f 73) (upTo 1 8)
-    (cond (eqb f 70) (upTo 0 2)
-    (cond (eqb f 66) (upTo 0 256)
-    (cond (eqb f 72) (upTo 0 65536)
-    (cond (eqb f 87) (upTo 0 4294967296)
-    (cond (eqb f 78) (upTo 16 17)
+    cond (isLetter f (bytes "I")) (upTo 1 8)
+    (cond (isLetter f (bytes "F")) (upTo 0 2)
+    (cond (isLetter f (bytes "B")) (upTo 0 256)
+    (cond (isLetter f (bytes "H")) (upTo 0 65536)
+    (cond (isLetter f (bytes "W")) (upTo 0 4294967296)
+    (cond (isLetter f (bytes "N")) (upTo 16 17)
     (bufferRangeOf l vs f))))))
 
 -- N and T ask for bytes
 unfoldable pub asksBytes : ℕ → Bool
-asksBytes f = eqb f 78 || eqb f 84
+asksBytes f = isLetter f (bytes "N") || isLetter f (bytes "T")
 
 -- a number, or how many bytes, in a range
 abbrev pub inRange : ℕ → Range → List ℕ → Found
@@ -50,7 +54,7 @@ inRange f r w = cond (asksBytes f) (bytesIn (r .lo) (r .end) w) (numberIn (r .lo
 
 -- the value of a word by the letter of its form
 unfoldable pub letterValue : Lengths → Values → ℕ → List ℕ → Found
-letterValue l vs f w = cond (eqb f 85) (bufferOf w) (inRange f (rangeOf l vs f) w)
+letterValue l vs f w = cond (isLetter f (bytes "U")) (bufferOf w) (inRange f (rangeOf l vs f) w)
 
 -- the value of a word in a form: 0 for a fixed word
 unfoldable pub valueOf : Lengths → Values → List ℕ → List ℕ → Found

@@ -5,3 +5,4 @@ pub mod Forms
 pub mod Lines
 pub mod Kinds
 pub mod Mangled
+pub mod Taken

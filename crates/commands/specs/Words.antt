@@ -53,7 +53,7 @@ numberIn lo end w = foundIf (isNumber w && within lo end (decimal w)) (decimal w
 
 -- the value of a hexadecimal digit, 0 to 9 and a to f (no capitals), and 16 for any other byte
 unfoldable pub hexDigit : ℕ → ℕ
-hexDigit b = cond (leb 48 b && leb b 57) (b - 48) (cond (leb 97 b && leb b 102) (b - 87) 16)
+hexDigit b = cond (digit b) (b - 48) (cond (leb 97 b && leb b 102) (b - 87) 16)
 
 abbrev pub isHex : ℕ → Bool
 isHex b = not (eqb (hexDigit b) 16)

@@ -13,10 +13,8 @@ pub struct Lengths {
     pub text: u32,
 }
 
-// The most bytes of each buffer.
+// The most bytes of each buffer: of table and of work, of file, of text.
 pub const TABLE_MOST: u32 = 65536;
-
-pub const WORK_MOST: u32 = 65536;
 
 pub const FILE_MOST: u32 = 70000;
 

@@ -9,8 +9,7 @@ pub const POKE: usize = 3;
 
 pub const SHOW: usize = 4;
 
-pub const SUM: usize = 5;
-
+// 5 is `sum`, the command on one buffer that is left then.
 pub const TEXT: usize = 6;
 
 pub const READ: usize = 7;

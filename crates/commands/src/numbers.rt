@@ -41,7 +41,7 @@ fn longer(v: u64, b: u8) -> u64
 }
 
 // The number that a word says, if it is at least lo and below end.
-pub fn number(word: &[u8], lo: u64, end: u64) -> Found
+pub(crate) fn number(word: &[u8], lo: u64, end: u64) -> Found
     requires { ⌜ end ≤ 4294967296 ⌝ }
     ensures { λ r. ⌜ r ≡ numberIn lo end (now (word .entry)) ⌝ }
 {

@@ -5,7 +5,7 @@ ghost use lib.ListN.{length, drop};
 ghost use Rattle.commands.specs.Texts.{before, same as Texts·same};
 
 // Where a byte stands first from a place on; the end where it does not.
-pub fn find(text: &[u8], from: usize, mark: u8) -> usize
+pub(crate) fn find(text: &[u8], from: usize, mark: u8) -> usize
     requires { ⌜ from ≤ length (now text) ⌝ }
     ensures { λ r. ⌜ r ≡ from + length (before mark (drop from (now (text .entry)))) ⌝ }
     ensures inside { λ r. ⌜ (from ≤ r) × (r ≤ length (now (text .entry))) ⌝ }

@@ -1,2 +1,2 @@
-pub mod BytesLaws
-pub mod StepLaws
+mod Kept
+mod LineLaws

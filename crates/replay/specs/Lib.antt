@@ -1,4 +1,1 @@
-pub mod Bytes
-pub mod Fields
-pub mod Steps
-pub mod After
+pub mod Log

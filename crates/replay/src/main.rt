@@ -1,26 +1,18 @@
 // A log of commands on standard input, an answer line for each of its lines.
-mod buffer_commands;
-mod bytes;
-mod desk;
-mod run_commands;
-mod run_fields;
-mod say;
-mod set_commands;
-mod set_fields;
-mod table_commands;
-
-use commands::kinds;
+use commands::buffers;
 use commands::lines;
-use commands::lines::Command;
 use commands::lines::Parsed;
 use desk::Desk;
+use desk_buffers::bytes;
+use desk_buffers::say;
 use libc::STDIN_FILENO;
 ghost use lib.ListN.{length};
 ghost use Rattle.commands.specs.Lines.{parseOf};
-ghost use Rattle.replay.specs.After.{heldOf, CommandAfter, LineAfter, loggedOf, Ended, ByteAfter, Reads};
+ghost use Rattle.desk.specs.After.{heldOf};
+ghost use Rattle.replay.specs.Log.{LineAfter, loggedOf, Ended, ByteAfter, Reads};
 
 // Of a line that is too long, one byte more than a line may have is kept.
-const KEPT: u32 = 256;
+const KEPT: u32 = lines::LONGEST as u32 + 1;
 
 // What is kept from byte to byte: the desk, the bytes of the line so far, the lines before it, and whether the log has ended.
 struct Log {
@@ -38,42 +30,6 @@ fn begun() -> Log {
         lines: 0,
         ended: false,
     }
-}
-
-// A command, and the desk after it.
-fn carry_out(
-    c: Command,
-    line: &[u8],
-    d: Desk,
-    table: &mut [u8],
-    work: &mut [u8],
-    file: &mut [u8],
-    text: &mut [u8],
-) -> Desk
-    ensures { λ r. ⌜ CommandAfter (c .kind) (c .values) (now (line .entry)) (heldOf d (now (table .entry)) (now (work .entry)) (now (file .entry)) (now (text .entry))) (heldOf r (now (table .exit)) (now (work .exit)) (now (file .exit)) (now (text .exit))) ⌝ }
-{
-    let mut after = d;
-    let set = d.set;
-    let run = d.run;
-    let l = d.lengths;
-    if c.kind == kinds::RESET {
-        say::ok();
-        return desk::fresh();
-    }
-    if c.kind <= kinds::TEXT {
-        after.lengths = buffer_commands::carry_out(c, line, l, table, work, file, text);
-        return after;
-    }
-    if c.kind <= kinds::TEST_SET {
-        after.set = set_commands::carry_out(c, line, set, l.text, text);
-        return after;
-    }
-    if c.kind <= kinds::OPEN {
-        after.lengths = table_commands::carry_out(c, set, l, table, work, file);
-        return after;
-    }
-    after.run = run_commands::carry_out(c, set, run, l.table, table);
-    after
 }
 
 // A line: mangled, it is named and nothing is touched.
@@ -95,7 +51,7 @@ fn answer(
             say::mangled(number);
             d
         }
-        Parsed::Taken(c) => carry_out(c, line, d, table, work, file, text),
+        Parsed::Taken(c) => desk::carry_out(c, line, d, table, work, file, text),
     }
 }
 
@@ -203,26 +159,15 @@ fn read_log(
     g
 }
 
-// Bytes after the last LF are a line too.
-fn finish(
-    g: Log,
-    line: &[u8],
-    table: &mut [u8],
-    work: &mut [u8],
-    file: &mut [u8],
-    text: &mut [u8],
-) {
-    if 0 < g.used {
-        end_line(g, line, table, work, file, text);
-    }
-}
-
 fn main() {
-    let mut line = [0u8; 256];
-    let mut table = [0u8; 65536];
-    let mut work = [0u8; 65536];
-    let mut file = [0u8; 70000];
-    let mut text = [0u8; 1200];
+    let mut line = [0u8; KEPT as usize];
+    let mut table = [0u8; buffers::TABLE_MOST as usize];
+    let mut work = [0u8; buffers::TABLE_MOST as usize];
+    let mut file = [0u8; buffers::FILE_MOST as usize];
+    let mut text = [0u8; buffers::TEXT_MOST as usize];
     let g = read_log(&mut line, &mut table, &mut work, &mut file, &mut text);
-    finish(g, &line, &mut table, &mut work, &mut file, &mut text);
+    // Bytes after the last LF are a line too.
+    if 0 < g.used {
+        end_line(g, &line, &mut table, &mut work, &mut file, &mut text);
+    }
 }

@@ -31,9 +31,6 @@ returns-6 : tie.Need-returns-6
 unfolding rangeOf
 returns-6 c = (simp (eq-eqb _ _ (c .if6 .taken), ne-eqb _ _ (c .before .if5 .left), ne-eqb _ _ (c .before .before .if4 .left), ne-eqb _ _ (c .before .before .before .if3 .left), ne-eqb _ _ (c .before .before .before .before .if2 .left), ne-eqb _ _ (c .before .before .before .before .before .if1 .left)), omega arith)
 
-buffer-limits-requires : tie.Need-buffer-limits-requires
-buffer-limits-requires c κs = search needs
-
 returns-7 : tie.Need-returns-7
 unfolding rangeOf
 returns-7 c = (c .buffer-limits .ensures .0 ∙ sym (simp (ne-eqb _ _ (c .before .if6 .left), ne-eqb _ _ (c .before .before .if5 .left), ne-eqb _ _ (c .before .before .before .if4 .left), ne-eqb _ _ (c .before .before .before .before .if3 .left), ne-eqb _ _ (c .before .before .before .before .before .if2 .left), ne-eqb _ _ (c .before .before .before .before .before .before .if1 .left))), c .buffer-limits .ensures .1)
@@ -48,5 +45,5 @@ limits-spec =
     returns-4
     returns-5
     returns-6
-    buffer-limits-requires
+    (λ c κs. search needs)
     returns-7)

@@ -6,12 +6,6 @@ use borrow.Author.Needs.{needs}
 use Rattle.commands.proofs.forms.value.Statement.{statement}
 use Rattle.commands.proofs.forms.value.Tie as tie
 
-letter-of-requires : tie.Need-letter-of-requires
-letter-of-requires c κs = search needs
-
-same-requires : tie.Need-same-requires
-same-requires c κs = search needs
-
 returns : tie.Need-returns
 unfolding valueOf
 returns c = simp (sym (c .before .before .before .letter-of .ensures), le-leb _ _ (c .before .before .if1 .taken), sym (c .before .same .ensures) ∙ c .if2 .taken)
@@ -20,18 +14,9 @@ returns-2 : tie.Need-returns-2
 unfolding valueOf
 returns-2 c = simp (sym (c .before .before .before .letter-of .ensures), le-leb _ _ (c .before .before .if1 .taken), sym (c .before .same .ensures) ∙ c .if2 .left)
 
-named-requires : tie.Need-named-requires
-named-requires c κs = search needs
-
 returns-3 : tie.Need-returns-3
 unfolding valueOf letterValue
 returns-3 c = c .named .ensures ∙ sym (simp (sym (c .before .before .before .letter-of .ensures), lt-leb _ _ (c .before .before .if1 .left), eq-eqb _ _ (c .before .if3 .taken)))
-
-limits-requires : tie.Need-limits-requires
-limits-requires c κs = search needs
-
-is-bytes-requires : tie.Need-is-bytes-requires
-is-bytes-requires c κs = search needs
 
 count-requires : tie.Need-count-requires
 count-requires c κs = c .before .before .limits .ensures .1
@@ -51,14 +36,14 @@ pub value-spec : {M : Type 1} → statement M
 value-spec =
     tie.close
     (tie.spec
-    letter-of-requires
-    same-requires
+    (λ c κs. search needs)
+    (λ c κs. search needs)
     returns
     returns-2
-    named-requires
+    (λ c κs. search needs)
     returns-3
-    limits-requires
-    is-bytes-requires
+    (λ c κs. search needs)
+    (λ c κs. search needs)
     count-requires
     returns-4
     number-requires

@@ -17,14 +17,8 @@ Inv-loop word i₀ i = (i ≤ length word) × (each isHex word ≡ each isHex (d
 abbrev μ-loop : tie.MeasureT-loop
 μ-loop word i₀ i = length word - i
 
-loop-holds : tie.Need-loop-holds Inv-loop μ-loop
-loop-holds c = search needs
-
 shared-slice-read-value : tie.Need-shared-slice-read-value Inv-loop μ-loop
 shared-slice-read-value c = omega arith
-
-value-requires : tie.Need-value-requires Inv-loop μ-loop
-value-requires c κs = search needs
 
 returns : tie.Need-returns Inv-loop μ-loop
 returns c = let p = c .before .before .before .before in
@@ -53,9 +47,9 @@ is-hexadecimal-spec =
     (tie.spec
     Inv-loop
     μ-loop
-    loop-holds
+    (λ c. search needs)
     shared-slice-read-value
-    value-requires
+    (λ c κs. search needs)
     returns
     add-i
     loop-less

@@ -1,5 +1,5 @@
 -- A row at a time, from `from` on.
-use mathlib.Core.Path.{sym, _∙_}
+use mathlib.Core.Path.{sym}
 use native.Mathlib.Omega.{arith}
 use lib.ListN.{length}
 use borrow.Author.Needs.{needs}
@@ -28,37 +28,14 @@ first-row-below t =
 abbrev calls : ℕ → first-row-lts.Claims
 calls t = (find-reads.Asked, find-reads.Learnt, fit-row-reads.Asked, fit-row-reads.Learnt, first-row-below t, first-row.Post)
 
-first-row-find-requires : (t : ℕ) → first-row-lts.Need-find-requires (calls t) (first-row-at t) first-row.Post
-first-row-find-requires t c κs = search needs
-
-first-row-sub-fit-row : (t : ℕ) → first-row-lts.Need-sub-fit-row (calls t) (first-row-at t) first-row.Post
-first-row-sub-fit-row t c = search needs
-
-first-row-part-fit-row-start : (t : ℕ) → first-row-lts.Need-part-fit-row-start (calls t) (first-row-at t) first-row.Post
-first-row-part-fit-row-start t c = search needs
-
-first-row-part-fit-row-end : (t : ℕ) → first-row-lts.Need-part-fit-row-end (calls t) (first-row-at t) first-row.Post
-first-row-part-fit-row-end t c = search needs
-
 first-row-fit-row-requires : (t : ℕ) → first-row-lts.Need-fit-row-requires (calls t) (first-row-at t) first-row.Post
 first-row-fit-row-requires t c κs = (omega arith, omega arith, omega arith)
-
-first-row-enum-known-tried : (t : ℕ) → first-row-lts.Need-enum-known-tried (calls t) (first-row-at t) first-row.Post
-first-row-enum-known-tried t c = search needs
-
-first-row-enum-told : (t : ℕ) → first-row-lts.Need-enum-told (calls t) (first-row-at t) first-row.Post
-first-row-enum-told t c = search needs
 
 first-row-returns : (t : ℕ) → first-row-lts.Need-returns (calls t) (first-row-at t) first-row.Post
 first-row-returns t c = let m = c .before .before .before .before .before in
     let a = m .before .before .before .args in
-    sym (row-last (a .lengths) (a .kind) (a .page .now) (a .line .now) (a .from) (m .find .result) (m .find .ensures .0) (sym (c .before .before .before .fit-row .ensures) ∙ c .before .enum-told .given .1) (omega arith) (c .if1 .taken))
-
-first-row-add-first-row : (t : ℕ) → first-row-lts.Need-add-first-row (calls t) (first-row-at t) first-row.Post
-first-row-add-first-row t c = search needs
-
-first-row-add-first-row-2 : (t : ℕ) → first-row-lts.Need-add-first-row-2 (calls t) (first-row-at t) first-row.Post
-first-row-add-first-row-2 t c = search needs
+    let x = c .before .before .before .fit-row in
+    sym (row-last (a .lengths) (a .kind) (a .page .now) (a .line .now) (a .from) (m .find .result) (m .find .ensures .0) (x .result) (x .ensures) (c .before .enum-told .given .1) (omega arith) (c .if1 .taken))
 
 first-row-first-row-requires : (t : ℕ) → first-row-lts.Need-first-row-requires (calls t) (first-row-at t) first-row.Post
 first-row-first-row-requires t c κs = (omega arith, (omega arith, omega arith))
@@ -66,27 +43,29 @@ first-row-first-row-requires t c κs = (omega arith, (omega arith, omega arith))
 first-row-returns-2 : (t : ℕ) → first-row-lts.Need-returns-2 (calls t) (first-row-at t) first-row.Post
 first-row-returns-2 t c = let m = c .before .before .before .before .before in
     let a = m .before .before .before .args in
-    sym (row-fits (a .lengths) (a .kind) (a .page .now) (a .line .now) (a .from) (m .find .result) (m .find .ensures .0) _ (sym (c .before .before .before .fit-row .ensures) ∙ c .before .tried .given .1))
+    let x = c .before .before .before .fit-row in
+    sym (row-fits (a .lengths) (a .kind) (a .page .now) (a .line .now) (a .from) (m .find .result) (m .find .ensures .0) (x .result) (x .ensures) _ (c .before .tried .given .1))
 
 first-row-returns-3 : (t : ℕ) → first-row-lts.Need-returns-3 (calls t) (first-row-at t) first-row.Post
 first-row-returns-3 t c = let m = c .before .before .before .before .before .before in
     let a = m .before .before .before .args in
-    c .first-row .ensures ∙ sym (row-on (a .lengths) (a .kind) (a .page .now) (a .line .now) (a .from) (m .find .result) (m .find .ensures .0) (sym (c .before .before .before .before .fit-row .ensures) ∙ c .before .before .enum-told .given .1) (omega arith))
+    let x = c .before .before .before .before .fit-row in
+    row-on (a .lengths) (a .kind) (a .page .now) (a .line .now) (a .from) (m .find .result) (m .find .ensures .0) (x .result) (x .ensures) (c .before .before .enum-told .given .1) (omega arith) _ (c .first-row .ensures)
 
 pub +first-row-spec : {M : Type 1} → statement M
 +first-row-spec = close μ-first-row λ t. first-row-lts.spec (calls t)
     (first-row-at t)
     first-row.Post
-    (first-row-find-requires t)
-    (first-row-sub-fit-row t)
-    (first-row-part-fit-row-start t)
-    (first-row-part-fit-row-end t)
+    (λ c κs. search needs)
+    (λ c. search needs)
+    (λ c. search needs)
+    (λ c. search needs)
     (first-row-fit-row-requires t)
-    (first-row-enum-known-tried t)
-    (first-row-enum-told t)
+    (λ c. search needs)
+    (λ c. search needs)
     (first-row-returns t)
-    (first-row-add-first-row t)
-    (first-row-add-first-row-2 t)
+    (λ c. search needs)
+    (λ c. search needs)
     (first-row-first-row-requires t)
     (first-row-returns-2 t)
     (first-row-returns-3 t)

@@ -1,9 +1,8 @@
 -- A word and a form at a time: the line from `at` on fits the row from `from` on.
-use mathlib.Core.Path.{ap, sym, _∙_}
+use mathlib.Core.Path.{sym}
 use native.Mathlib.Omega.{arith}
 use lib.ListN.{length}
 use borrow.Author.Needs.{needs}
-use Rattle.commands.specs.declared.lines.Tried.the-variants.{Fits}
 use Rattle.commands.proofs.LineLaws.{Split, fit-nothing, fit-whole, fit-few, fit-many, fit-on}
 use Prim.Native.Nat.{ℕ, _-_, _<_}
 use borrow.Fn.Kinds.{In}
@@ -46,65 +45,23 @@ split t m = record {
   lineHas = m .before .find .ensures .1 .1;
 }
 
-fit-row-find-requires : (t : ℕ) → fit-row-lts.Need-find-requires (calls t) (fit-row-at t) fit-row.Post
-fit-row-find-requires t c κs = search needs
-
-fit-row-find-requires-2 : (t : ℕ) → fit-row-lts.Need-find-requires-2 (calls t) (fit-row-at t) fit-row.Post
-fit-row-find-requires-2 t c κs = search needs
-
-fit-row-sub-value : (t : ℕ) → fit-row-lts.Need-sub-value (calls t) (fit-row-at t) fit-row.Post
-fit-row-sub-value t c = search needs
-
-fit-row-part-value-start : (t : ℕ) → fit-row-lts.Need-part-value-start (calls t) (fit-row-at t) fit-row.Post
-fit-row-part-value-start t c = search needs
-
-fit-row-part-value-end : (t : ℕ) → fit-row-lts.Need-part-value-end (calls t) (fit-row-at t) fit-row.Post
-fit-row-part-value-end t c = search needs
-
-fit-row-sub-value-2 : (t : ℕ) → fit-row-lts.Need-sub-value-2 (calls t) (fit-row-at t) fit-row.Post
-fit-row-sub-value-2 t c = search needs
-
-fit-row-part-value-start-2 : (t : ℕ) → fit-row-lts.Need-part-value-start-2 (calls t) (fit-row-at t) fit-row.Post
-fit-row-part-value-start-2 t c = search needs
-
-fit-row-part-value-end-2 : (t : ℕ) → fit-row-lts.Need-part-value-end-2 (calls t) (fit-row-at t) fit-row.Post
-fit-row-part-value-end-2 t c = search needs
-
-fit-row-value-requires : (t : ℕ) → fit-row-lts.Need-value-requires (calls t) (fit-row-at t) fit-row.Post
-fit-row-value-requires t c κs = search needs
-
-fit-row-enum-told : (t : ℕ) → fit-row-lts.Need-enum-told (calls t) (fit-row-at t) fit-row.Post
-fit-row-enum-told t c = search needs
-
-fit-row-enum-known-found : (t : ℕ) → fit-row-lts.Need-enum-known-found (calls t) (fit-row-at t) fit-row.Post
-fit-row-enum-known-found t c = search needs
-
-fit-row-keep-requires : (t : ℕ) → fit-row-lts.Need-keep-requires (calls t) (fit-row-at t) fit-row.Post
-fit-row-keep-requires t c κs = search needs
-
 fit-row-returns : (t : ℕ) → fit-row-lts.Need-returns (calls t) (fit-row-at t) fit-row.Post
 fit-row-returns t c = let m = c .before .before .before .before .before .before .before .before .before in
     let a = entry t m .args in
-    ap Fits (c .before .before .keep .ensures) ∙ sym (fit-whole (a .lengths) (a .vs) (a .place) (a .row .now) (a .line .now) (a .from) (a .at) (m .find2 .result) (m .before .find .result) (split t m) _ (sym (c .before .before .before .before .before .before .value .ensures) ∙ c .before .before .before .before .found .given .1) (c .before .if1 .taken) (c .if2 .taken))
+    let x = c .before .before .before .before .before .before .value in
+    sym (fit-whole (a .lengths) (a .vs) (a .place) (a .row .now) (a .line .now) (a .from) (a .at) (m .find2 .result) (m .before .find .result) (split t m) (x .result) (x .ensures) _ (c .before .before .before .before .found .given .1) _ (c .before .before .keep .ensures) (c .before .if1 .taken) (c .if2 .taken))
 
 fit-row-returns-2 : (t : ℕ) → fit-row-lts.Need-returns-2 (calls t) (fit-row-at t) fit-row.Post
 fit-row-returns-2 t c = let m = c .before .before .before .before .before .before .before .before .before in
     let a = entry t m .args in
-    sym (fit-few (a .lengths) (a .vs) (a .place) (a .row .now) (a .line .now) (a .from) (a .at) (m .find2 .result) (m .before .find .result) (split t m) _ (sym (c .before .before .before .before .before .before .value .ensures) ∙ c .before .before .before .before .found .given .1) (c .before .if1 .taken) (omega arith))
+    let x = c .before .before .before .before .before .before .value in
+    sym (fit-few (a .lengths) (a .vs) (a .place) (a .row .now) (a .line .now) (a .from) (a .at) (m .find2 .result) (m .before .find .result) (split t m) (x .result) (x .ensures) _ (c .before .before .before .before .found .given .1) _ (c .before .before .keep .ensures) (c .before .if1 .taken) (omega arith))
 
 fit-row-returns-3 : (t : ℕ) → fit-row-lts.Need-returns-3 (calls t) (fit-row-at t) fit-row.Post
 fit-row-returns-3 t c = let m = c .before .before .before .before .before .before .before .before .before in
     let a = entry t m .args in
-    sym (fit-many (a .lengths) (a .vs) (a .place) (a .row .now) (a .line .now) (a .from) (a .at) (m .find2 .result) (m .before .find .result) (split t m) _ (sym (c .before .before .before .before .before .before .value .ensures) ∙ c .before .before .before .before .found .given .1) (omega arith) (c .if3 .taken))
-
-fit-row-add-fit-row : (t : ℕ) → fit-row-lts.Need-add-fit-row (calls t) (fit-row-at t) fit-row.Post
-fit-row-add-fit-row t c = search needs
-
-fit-row-add-fit-row-2 : (t : ℕ) → fit-row-lts.Need-add-fit-row-2 (calls t) (fit-row-at t) fit-row.Post
-fit-row-add-fit-row-2 t c = search needs
-
-fit-row-add-fit-row-3 : (t : ℕ) → fit-row-lts.Need-add-fit-row-3 (calls t) (fit-row-at t) fit-row.Post
-fit-row-add-fit-row-3 t c = search needs
+    let x = c .before .before .before .before .before .before .value in
+    sym (fit-many (a .lengths) (a .vs) (a .place) (a .row .now) (a .line .now) (a .from) (a .at) (m .find2 .result) (m .before .find .result) (split t m) (x .result) (x .ensures) _ (c .before .before .before .before .found .given .1) _ (c .before .before .keep .ensures) (omega arith) (c .if3 .taken))
 
 fit-row-fit-row-requires : (t : ℕ) → fit-row-lts.Need-fit-row-requires (calls t) (fit-row-at t) fit-row.Post
 fit-row-fit-row-requires t c κs = (omega arith, (omega arith, omega arith, omega arith))
@@ -112,35 +69,37 @@ fit-row-fit-row-requires t c κs = (omega arith, (omega arith, omega arith, omeg
 fit-row-returns-4 : (t : ℕ) → fit-row-lts.Need-returns-4 (calls t) (fit-row-at t) fit-row.Post
 fit-row-returns-4 t c = let m = c .before .before .before .before .before in
     let a = entry t m .args in
-    sym (fit-nothing (a .lengths) (a .vs) (a .place) (a .row .now) (a .line .now) (a .from) (a .at) (m .find2 .result) (m .before .find .result) (split t m) (sym (c .before .before .value .ensures) ∙ c .enum-told .given .1))
+    let x = c .before .before .value in
+    sym (fit-nothing (a .lengths) (a .vs) (a .place) (a .row .now) (a .line .now) (a .from) (a .at) (m .find2 .result) (m .before .find .result) (split t m) (x .result) (x .ensures) (c .enum-told .given .1))
 
 fit-row-returns-5 : (t : ℕ) → fit-row-lts.Need-returns-5 (calls t) (fit-row-at t) fit-row.Post
 fit-row-returns-5 t c = let m = c .before .before .before .before .before .before .before .before .before .before in
     let a = entry t m .args in
-    c .fit-row .ensures ∙ rw (c .before .before .before .keep .ensures) (sym (fit-on (a .lengths) (a .vs) (a .place) (a .row .now) (a .line .now) (a .from) (a .at) (m .find2 .result) (m .before .find .result) (split t m) _ (sym (c .before .before .before .before .before .before .before .value .ensures) ∙ c .before .before .before .before .before .found .given .1) (omega arith) (omega arith)))
+    let x = c .before .before .before .before .before .before .before .value in
+    fit-on (a .lengths) (a .vs) (a .place) (a .row .now) (a .line .now) (a .from) (a .at) (m .find2 .result) (m .before .find .result) (split t m) (x .result) (x .ensures) _ (c .before .before .before .before .before .found .given .1) _ (c .before .before .before .keep .ensures) (omega arith) (omega arith) _ (c .fit-row .ensures)
 
 pub +fit-row-spec : {M : Type 1} → statement M
 +fit-row-spec = close μ-fit-row λ t. fit-row-lts.spec (calls t)
     (fit-row-at t)
     fit-row.Post
-    (fit-row-find-requires t)
-    (fit-row-find-requires-2 t)
-    (fit-row-sub-value t)
-    (fit-row-part-value-start t)
-    (fit-row-part-value-end t)
-    (fit-row-sub-value-2 t)
-    (fit-row-part-value-start-2 t)
-    (fit-row-part-value-end-2 t)
-    (fit-row-value-requires t)
-    (fit-row-enum-told t)
-    (fit-row-enum-known-found t)
-    (fit-row-keep-requires t)
+    (λ c κs. search needs)
+    (λ c κs. search needs)
+    (λ c. search needs)
+    (λ c. search needs)
+    (λ c. search needs)
+    (λ c. search needs)
+    (λ c. search needs)
+    (λ c. search needs)
+    (λ c κs. search needs)
+    (λ c. search needs)
+    (λ c. search needs)
+    (λ c κs. search needs)
     (fit-row-returns t)
     (fit-row-returns-2 t)
     (fit-row-returns-3 t)
-    (fit-row-add-fit-row t)
-    (fit-row-add-fit-row-2 t)
-    (fit-row-add-fit-row-3 t)
+    (λ c. search needs)
+    (λ c. search needs)
+    (λ c. search needs)
     (fit-row-fit-row-requires t)
     (fit-row-returns-4 t)
     (fit-row-returns-5 t)

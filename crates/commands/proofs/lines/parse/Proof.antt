@@ -10,15 +10,9 @@ returns : tie.Need-returns
 unfolding parseOf
 returns c = simp (lt-ltb _ _ (c .if1 .taken))
 
-slice-aggregate-first-row : tie.Need-slice-aggregate-first-row
-slice-aggregate-first-row c = search needs
-
-first-row-requires : tie.Need-first-row-requires
-first-row-requires c κs = search needs
-
 returns-2 : tie.Need-returns-2
 unfolding parseOf page
 returns-2 c = c .first-row .ensures ∙ sym (simp (le-ltb _ _ (c .before .before .if1 .left)))
 
 pub parse-spec : {M : Type 1} → statement M
-parse-spec = tie.close (tie.spec returns slice-aggregate-first-row first-row-requires returns-2)
+parse-spec = tie.close (tie.spec returns (λ c. search needs) (λ c κs. search needs) returns-2)

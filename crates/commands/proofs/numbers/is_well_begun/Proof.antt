@@ -1,26 +1,18 @@
+-- No byte, one, or more.
 use mathlib.Core.Path.{sym}
 use Rattle.commands.proofs.WordLaws.{begun-none, begun-one, begun-more}
 use borrow.Author.Needs.{needs}
 use Rattle.commands.proofs.numbers.is_well_begun.Statement.{statement}
 use Rattle.commands.proofs.numbers.is_well_begun.Tie as tie
-use Rattle.commands.proofs.numbers.is_well_begun.Reads as reads
-use Rattle.commands.proofs.numbers.is_well_begun.Lts as lts
 
--- src/numbers.rt:27:9
 returns : tie.Need-returns
 returns c = sym (begun-none _ (c .if1 .taken))
 
--- src/numbers.rt:30:9
 returns-2 : tie.Need-returns-2
 returns-2 c = sym (begun-one _ (c .if2 .taken))
 
--- src/numbers.rt:32:5
-shared-slice-read-result : tie.Need-shared-slice-read-result
-shared-slice-read-result c = search needs
-
--- src/numbers.rt:23:1
 returns-3 : tie.Need-returns-3
 returns-3 c = sym (begun-more _ (c .before .before .if1 .left) (c .before .if2 .left))
 
 pub is-well-begun-spec : {M : Type 1} → statement M
-is-well-begun-spec = tie.close (tie.spec returns returns-2 shared-slice-read-result returns-3)
+is-well-begun-spec = tie.close (tie.spec returns returns-2 (λ c. search needs) returns-3)

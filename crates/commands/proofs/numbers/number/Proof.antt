@@ -17,9 +17,6 @@ Inv-loop word lo end v₀ i₀ v i = (i ≤ length word) × (each digit word ≡
 abbrev μ-loop : tie.MeasureT-loop
 μ-loop word lo end v₀ i₀ v i = length word - i
 
-is-well-begun-requires : tie.Need-is-well-begun-requires Inv-loop μ-loop
-is-well-begun-requires c κs = search needs
-
 returns : tie.Need-returns Inv-loop μ-loop
 returns c = sym (number-begun _ _ _ (sym (c .before .is-well-begun .ensures) ∙ not-true _ (c .if1 .taken)))
 
@@ -28,9 +25,6 @@ loop-holds c = (omega arith, refl, refl, sym (c .before .is-well-begun .ensures)
 
 shared-slice-read-b : tie.Need-shared-slice-read-b Inv-loop μ-loop
 shared-slice-read-b c = omega arith
-
-is-digit-requires : tie.Need-is-digit-requires Inv-loop μ-loop
-is-digit-requires c κs = search needs
 
 returns-2 : tie.Need-returns-2 Inv-loop μ-loop
 returns-2 c = let p = c .before .before .before .before in
@@ -86,11 +80,11 @@ number-spec =
     (tie.spec
     Inv-loop
     μ-loop
-    is-well-begun-requires
+    (λ c κs. search needs)
     returns
     loop-holds
     shared-slice-read-b
-    is-digit-requires
+    (λ c κs. search needs)
     returns-2
     returns-3
     longer-requires

@@ -15,9 +15,6 @@ Inv-loop text from mark i₀ i = (from ≤ i) × (i ≤ length text) × (from + 
 abbrev μ-loop : tie.MeasureT-loop
 μ-loop text from mark i₀ i = length text - i
 
-loop-holds : tie.Need-loop-holds Inv-loop μ-loop
-loop-holds c = search needs
-
 shared-slice-read-if1 : tie.Need-shared-slice-read-if1 Inv-loop μ-loop
 shared-slice-read-if1 c = omega arith
 
@@ -48,7 +45,7 @@ find-spec =
     (tie.spec
     Inv-loop
     μ-loop
-    loop-holds
+    (λ c. search needs)
     shared-slice-read-if1
     returns
     add-i

@@ -18,9 +18,6 @@ abbrev μ-loop : tie.MeasureT-loop
 returns : tie.Need-returns Inv-loop μ-loop
 returns c = sym (same-lengths _ _ (c .if1 .taken))
 
-loop-holds : tie.Need-loop-holds Inv-loop μ-loop
-loop-holds c = search needs
-
 shared-slice-read-if2 : tie.Need-shared-slice-read-if2 Inv-loop μ-loop
 shared-slice-read-if2 c = omega arith
 
@@ -55,7 +52,7 @@ same-spec =
     Inv-loop
     μ-loop
     returns
-    loop-holds
+    (λ c. search needs)
     shared-slice-read-if2
     shared-slice-read-if2-2
     returns-2

@@ -1,0 +1,84 @@
+-- What a command leaves: of the set; of the table and the file, by the parts of the buffers that were lent; and of all that is held.
+use mathlib.Core.List.{List, _++_}
+use mathlib.Core.Path.{_≡_, refl, ap}
+use Prim.Native.Nat.{ℕ, _<_, _≤_, min}
+use borrow.Author.Tests.{eq-eqb, ne-eqb, le-leb, lt-leb}
+use lib.ListN.{length, take, drop}
+use Rattle.commands.specs.declared.buffers.Lengths.{Lengths}
+use Rattle.commands.specs.declared.forms.Values.{Values}
+use Rattle.tasks.specs.declared.sets.Task.{Task}
+use Rattle.tasks.specs.declared.sets.Set.{Set}
+use Rattle.guard.specs.declared.runs.Run.{Run}
+use Rattle.desk.specs.declared.Desk.{Desk}
+use Rattle.table_file.specs.Open.{openOf, handed}
+use Rattle.desk_buffers.specs.Buffers.{buffersOf, buffersAfter}
+use Rattle.desk.specs.Steps.{setAfter, textAfter, runAfter}
+use Rattle.desk.specs.After.{Building, fileAfter, openedLength, openedTable, TablesAfter, heldOf, noDesk, CommandAfter}
+use Rattle.desk_buffers.proofs.BytesLaws.{within-take, within-drop}
+
+-- a set is its three fields
+pub set-is : (r : Set) (n : List ℕ) (k : ℕ) (ts : List Task) → r .name ≡ n → r .count ≡ k → r .tasks ≡ ts → r ≡ record { name = n; count = k; tasks = ts }
+set-is r n k ts e f g = rw (← e, ← f, ← g)
+
+-- TABLE AND FILE
+
+module _ (s : Set) (k : ℕ) (l : Lengths) (t w f x : List ℕ) where
+  pub build-step : k ≡ 17 → (mt mw : ℕ) → mt ≡ min (l .table) (length t) → mw ≡ min (l .work) (length w) → (t′ w′ : List ℕ) →
+      Building s (take mt t) (take mw w) t′ w′ → TablesAfter s (buffersOf l t w f x) k (buffersOf l (t′ ++ drop mt t) (w′ ++ drop mw w) f x)
+  unfolding TablesAfter
+  build-step e mt mw ht hw t′ w′ b =
+      rw (eq-eqb k 17 e) (record {
+        table′ = t′;
+        work′ = w′;
+        building = rw (← within-take (l .table) mt t ht, ← within-take (l .work) mw w hw) b;
+        after = rw (within-drop (l .table) mt t ht, within-drop (l .work) mw w hw);
+      })
+
+  module _ (n : k ≡ 17 → ⊥) where
+    pub test-step : k ≡ 18 → TablesAfter s (buffersOf l t w f x) k (buffersOf l t w f x)
+    unfolding TablesAfter
+    test-step e = rw (ne-eqb k 17 n, eq-eqb k 18 e)
+
+    module _ (n′ : k ≡ 18 → ⊥) where
+      pub write-step : k ≡ 19 → (mt mf : ℕ) → mt ≡ min (l .table) (length t) → mf ≡ min (l .file) (length f) → (f′ : List ℕ) →
+          f′ ≡ fileAfter s (take mt t) (take mf f) → TablesAfter s (buffersOf l t w f x) k (buffersOf l t w (f′ ++ drop mf f) x)
+      unfolding TablesAfter
+      write-step e mt mf ht hf f′ h =
+          rw (ne-eqb k 17 n, ne-eqb k 18 n′, eq-eqb k 19 e, h, within-take (l .table) mt t ht, within-take (l .file) mf f hf, within-drop (l .file) mf f hf)
+
+      pub open-step : (k ≡ 19 → ⊥) → (mf : ℕ) → mf ≡ min (l .file) (length f) → (m : ℕ) (t′ : List ℕ) →
+          m ≡ openedLength (openOf s (take mf f)) (handed s (take mf f)) (l .table) → t′ ≡ openedTable (openOf s (take mf f)) (handed s (take mf f)) t →
+          TablesAfter s (buffersOf l t w f x) k (buffersOf (record { table = m; work = l .work; file = l .file; text = l .text }) t′ w f x)
+      unfolding TablesAfter
+      open-step n″ mf hf m t′ e h =
+          rw (ne-eqb k 17 n, ne-eqb k 18 n′, ne-eqb k 19 n″, e, h, within-take (l .file) mf f hf)
+
+-- ALL THAT IS HELD, BY THE GROUPS OF THE KINDS
+
+module _ (k : ℕ) (vs : Values) (line : List ℕ) (d : Desk) (t w f x : List ℕ) where
+  pub reset-step : k ≡ 0 → (r : Desk) → r ≡ noDesk → CommandAfter k vs line (heldOf d t w f x) (heldOf r t w f x)
+  unfolding CommandAfter
+  reset-step e r h = rw (eq-eqb k 0 e, h)
+
+  module _ (n : k ≡ 0 → ⊥) where
+    pub buffer-step : k ≤ 6 → (r : Lengths) (t′ w′ f′ x′ : List ℕ) → buffersOf r t′ w′ f′ x′ ≡ buffersAfter k vs line (buffersOf (d .lengths) t w f x) →
+        CommandAfter k vs line (heldOf d t w f x) (heldOf (record { set = d .set; run = d .run; lengths = r }) t′ w′ f′ x′)
+    unfolding CommandAfter
+    buffer-step e r t′ w′ f′ x′ h = rw (ne-eqb k 0 n, le-leb k 6 e) (ap (λ b. record { set = d .set; run = d .run; buffers = b }) h)
+
+    module _ (a : 6 < k) where
+      pub set-step : k ≤ 16 → (r : Set) (x′ : List ℕ) → r ≡ setAfter k vs line (take (d .lengths .text) x) (d .set) → x′ ≡ textAfter k (d .set) (d .lengths .text) x →
+          CommandAfter k vs line (heldOf d t w f x) (heldOf (record { set = r; run = d .run; lengths = d .lengths }) t w f x′)
+      unfolding CommandAfter
+      set-step e r x′ h h′ = rw (ne-eqb k 0 n, lt-leb k 6 a, le-leb k 16 e, h, h′)
+
+      module _ (a′ : 16 < k) where
+        pub tables-step : k ≤ 20 → (r : Lengths) (t′ w′ f′ : List ℕ) → TablesAfter (d .set) (buffersOf (d .lengths) t w f x) k (buffersOf r t′ w′ f′ x) →
+            CommandAfter k vs line (heldOf d t w f x) (heldOf (record { set = d .set; run = d .run; lengths = r }) t′ w′ f′ x)
+        unfolding CommandAfter
+        tables-step e r t′ w′ f′ h = rw (ne-eqb k 0 n, lt-leb k 6 a, lt-leb k 16 a′, le-leb k 20 e) (record { set = refl; run = refl; buffers = h })
+
+        pub run-step : 20 < k → (r : Run) → r ≡ runAfter k vs (d .set) (take (d .lengths .table) t) (d .run) →
+            CommandAfter k vs line (heldOf d t w f x) (heldOf (record { set = d .set; run = r; lengths = d .lengths }) t w f x)
+        unfolding CommandAfter
+        run-step e r h = rw (ne-eqb k 0 n, lt-leb k 6 a, lt-leb k 16 a′, lt-leb k 20 e, h)

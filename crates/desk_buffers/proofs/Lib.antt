@@ -1,0 +1,2 @@
+mod BufferLaws
+pub mod BytesLaws
