@@ -4,22 +4,20 @@ use mathlib.Core.List.{List, _++_}
 use mathlib.Core.Path.{_≡_}
 use Prim.Native.Nat.{ℕ, min}
 use lib.Dec.{eqb, leb}
-use lib.ListN.{length, take, drop, replicate}
+use lib.ListN.{length, take, drop}
 use Rattle.commands.specs.declared.buffers.Lengths.{Lengths}
 use Rattle.commands.specs.declared.forms.Values.{Values}
 use Rattle.commands.specs.Kinds as kind
 use Rattle.tasks.specs.declared.sets.Set.{Set}
-use Rattle.tasks.specs.Sets.{noTask}
-use Rattle.game.specs.States.{noState}
+use Rattle.tasks.specs.Sets.{noSet}
 use Rattle.shield.specs.declared.builder.Built.{Built}
 use Rattle.shield.specs.Build.{Builds}
 use Rattle.table_file.specs.declared.opener.Opened.{Opened}
 use Rattle.table_file.specs.declared.opener.Opened.the-variants.{Opens, Refused}
 use Rattle.table_file.specs.Write.{writeOf, fileWritten}
 use Rattle.table_file.specs.Open.{openOf, handed}
-use Rattle.guard.specs.declared.runs.Awaited.the-variants.{Nothing}
 use Rattle.guard.specs.declared.runs.Run.{Run}
-use Rattle.guard.specs.Runs.{noCounts}
+use Rattle.guard.specs.Runs.{startRun}
 use Rattle.desk.specs.declared.Desk.{Desk}
 use Rattle.desk_buffers.specs.Bytes.{putAt}
 use Rattle.desk_buffers.specs.Buffers.{Buffers, buffersOf, buffersAfter}
@@ -94,14 +92,8 @@ heldOf d t w f x = record { set = d .set; run = d .run; buffers = buffersOf (d .
 abbrev pub noLengths : Lengths
 noLengths = record { table = 0; work = 0; file = 0; text = 0 }
 
-abbrev pub noSet : Set
-noSet = record { name = replicate 16 0; count = 0; tasks = replicate 7 noTask }
-
-abbrev pub noRun : Run
-noRun = record { states = replicate 7 noState; counts = replicate 7 noCounts; ticks = 0; substitutions = 0; reading = 0; awaited = Nothing }
-
 abbrev pub noDesk : Desk
-noDesk = record { set = noSet; run = noRun; lengths = noLengths }
+noDesk = record { set = noSet; run = startRun 0 0; lengths = noLengths }
 
 module _ (k : ℕ) (vs : Values) (line : List ℕ) (h : Held) where
   abbrev b : Buffers

@@ -9,15 +9,12 @@ use commands::buffers::Lengths;
 use commands::kinds;
 use commands::lines::Command;
 use desk_buffers::say;
-use game::states::Job;
-use game::states::TaskState;
-use guard::runs::Awaited;
-use guard::runs::Counts;
+use guard::runs;
 use guard::runs::Run;
+use tasks::sets;
 use tasks::sets::Set;
-use tasks::sets::Task;
 ghost use mathlib.Core.Path.{_≡_};
-ghost use Rattle.desk.specs.After.{noSet, noRun, noDesk, heldOf, CommandAfter};
+ghost use Rattle.desk.specs.After.{noDesk, heldOf, CommandAfter};
 
 // What is held beside the bytes of the buffers.
 pub struct Desk {
@@ -26,47 +23,12 @@ pub struct Desk {
     pub lengths: Lengths,
 }
 
-fn no_set() -> Set
-    ensures { λ r. ⌜ r ≡ noSet ⌝ }
-{
-    Set {
-        name: [0; 16],
-        count: 0,
-        tasks: [Task {
-            kind: 0,
-            deadline: 0,
-            runs: 0,
-            gaps: 0,
-        }; 7],
-    }
-}
-
-fn no_run() -> Run
-    ensures { λ r. ⌜ r ≡ noRun ⌝ }
-{
-    Run {
-        states: [TaskState {
-            age: 0,
-            job: Job::Empty,
-        }; 7],
-        counts: [Counts {
-            arrived: 0,
-            finished: 0,
-            replaced: 0,
-        }; 7],
-        ticks: 0,
-        substitutions: 0,
-        reading: 0,
-        awaited: Awaited::Nothing,
-    }
-}
-
 // Everything as at the beginning.
 pub fn fresh() -> Desk
     ensures { λ r. ⌜ r ≡ noDesk ⌝ }
 {
-    let set = no_set();
-    let run = no_run();
+    let set = sets::no_set();
+    let run = runs::fresh_run(0, 0);
     Desk {
         set: set,
         run: run,

@@ -113,8 +113,8 @@ fn fresh_counts(n: usize) -> [Counts; 7]
     ]
 }
 
-// The run at the start, for n tasks.
-fn fresh_run(n: usize, reading: u32) -> Run
+// The run at the start, for n tasks; for none, a run of zeros with no job.
+pub fn fresh_run(n: usize, reading: u32) -> Run
     ensures { λ r. ⌜ r ≡ startRun n reading ⌝ }
 {
     let xs = fresh_states(n);

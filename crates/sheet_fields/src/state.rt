@@ -1,8 +1,5 @@
 // What is kept of a sheet that is half read.
-use tasks::sets::Set;
-use tasks::sets::Task;
 ghost use mathlib.Core.Path.{_≡_};
-ghost use Rattle.sheet_form.specs.Sets.{noSet};
 ghost use Rattle.sheet_fields.specs.State.{blankOf, moved};
 
 // Where the next byte stands: in a word, in the name, at a line's start, in a field; or a byte before it was a fault.
@@ -35,23 +32,6 @@ pub struct State {
     pub deadline: u8,
     pub runs: u16,
     pub count: u8,
-}
-
-// A set of zeros.
-pub fn no_set() -> Set
-    ensures { λ r. ⌜ r ≡ noSet ⌝ }
-{
-    let t = Task {
-        kind: 0,
-        deadline: 0,
-        runs: 0,
-        gaps: 0,
-    };
-    Set {
-        name: [0u8; 16],
-        count: 0,
-        tasks: [t; 7],
-    }
 }
 
 // Nothing kept, at a mode.

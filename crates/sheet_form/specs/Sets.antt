@@ -61,10 +61,6 @@ abbrev pub lowestLine : ℕ → List Line → Tested → Tested
 lowestLine i [] t = t
 lowestLine i (l ∷ ls) t = refuseOr (lineFault l) (suc i) (lowestLine (suc i) ls t)
 
--- a set of zeros
-abbrev pub noSet : Set
-noSet = record { name = replicate 16 0; count = 0; tasks = replicate 7 noTask }
-
 -- FROM A SET TO A SHEET
 
 -- the last of a list apart

@@ -12,9 +12,9 @@ use Rattle.tasks.specs.declared.sets.Set.{Set}
 use Rattle.tasks.specs.declared.sets.Tested.{Tested}
 use Rattle.tasks.specs.declared.sets.Tested.the-variants.{States, Refused as FailedWith}
 use Rattle.tasks.specs.Refusals.{Said, answered, refusing, sheetTooLong, sheetForm, badRecord, tooManyStates}
-use Rattle.tasks.specs.Sets.{refuseOr, statesOf, testStates, testSet}
+use Rattle.tasks.specs.Sets.{noSet, refuseOr, statesOf, testStates, testSet}
 use Rattle.sheet_form.specs.Form.{Line, Each, longest, Member, FaultAt, Form, fits, stops}
-use Rattle.sheet_form.specs.Sets.{rising, setOf, noSet, lineFault, lowestLine}
+use Rattle.sheet_form.specs.Sets.{rising, setOf, lineFault, lowestLine}
 use Rattle.tasks.proofs.Valid.{refused-number}
 use Rattle.arena.proofs.Tests.{by-cond}
 use Rattle.sheet_form.proofs.Faults.{lines-tested, lowest-at, not-rising}

@@ -10,9 +10,9 @@ use Rattle.tasks.specs.declared.sets.Set.{Set}
 use Rattle.tasks.specs.declared.sets.Tested.{Tested}
 use Rattle.tasks.specs.declared.sets.Tested.the-variants.{States, Refused as FailedWith}
 use Rattle.tasks.specs.Refusals.{Said, answered, sheetTooLong, sheetForm}
-use Rattle.tasks.specs.Sets.{testSet}
+use Rattle.tasks.specs.Sets.{noSet, testSet}
 use Rattle.sheet_form.specs.Form.{longest, Form, fits, stops}
-use Rattle.sheet_form.specs.Sets.{setOf, noSet}
+use Rattle.sheet_form.specs.Sets.{setOf}
 use Rattle.sheet_form.proofs.Places.{form}
 use Rattle.sheet_reader.specs.declared.ReadAnswer.{ReadAnswer}
 use Rattle.sheet_reader.specs.declared.SheetRead.{SheetRead}

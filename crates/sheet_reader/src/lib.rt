@@ -1,5 +1,4 @@
 // The reader of sheets, over a text and a place of it.
-use sheet_fields::state;
 use sheet_form::LONGEST;
 use sheet_scan::scan;
 use tasks::refusals;
@@ -28,7 +27,7 @@ pub struct SheetRead {
 fn refused(f: Refusal) -> SheetRead
     ensures { λ r. ⌜ r ≡ refusedWith f ⌝ }
 {
-    let set = state::no_set();
+    let set = sets::no_set();
     SheetRead {
         answer: ReadAnswer::Refused(f),
         set: set,

@@ -13,7 +13,8 @@ use Rattle.sheet_form.specs.Form.{Member, FaultAt, Form, fits, stops}
 use Rattle.sheet_form.specs.Machine.{word, name, line, field, fault, opening, kind, deadline, runs, gaps, step, run, start}
 use Rattle.sheet_form.specs.Machine as machine
 use Rattle.tasks.specs.declared.sets.Set.{Set}
-use Rattle.sheet_form.specs.Sets.{setOf, noSet, padded}
+use Rattle.tasks.specs.Sets.{noSet}
+use Rattle.sheet_form.specs.Sets.{setOf, padded}
 use Rattle.sheet_form.proofs.Shown.{Ok, shown, step-reads}
 use Rattle.sheet_form.proofs.Runs.{run-append}
 use Rattle.sheet_form.proofs.Places.{one-fault, fault-no-member, one-sheet, fault-from, accepts, accepted, start-ok, form}

@@ -4,7 +4,8 @@ use mathlib.Core.List.{List}
 use Prim.Native.Nat.{ℕ}
 use lib.ListN.{length}
 use Rattle.sheet_form.specs.Form.{Form, fits, stops}
-use Rattle.sheet_form.specs.Sets.{setOf, noSet}
+use Rattle.tasks.specs.Sets.{noSet}
+use Rattle.sheet_form.specs.Sets.{setOf}
 use Rattle.sheet_form.proofs.Places.{form}
 use Rattle.sheet_scan.specs.declared.Scanned.{Scanned}
 

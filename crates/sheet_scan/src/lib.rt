@@ -4,6 +4,7 @@ mod steps;
 
 use sheet_fields::fields::ended_task;
 use sheet_fields::state;
+use tasks::sets;
 use tasks::sets::Set;
 ghost use mathlib.Core.Path.{_≡_};
 ghost use lib.ListN.{drop};
@@ -20,7 +21,7 @@ pub struct Scanned {
 fn stopped(reach: usize) -> Scanned
     ensures { λ r. ⌜ r ≡ stoppedAt reach ⌝ }
 {
-    let set = state::no_set();
+    let set = sets::no_set();
     Scanned {
         whole: false,
         reach: reach,
@@ -32,7 +33,7 @@ fn stopped(reach: usize) -> Scanned
 pub fn scan(text: &[u8], at: usize) -> Scanned
     ensures { λ r. ⌜ r ≡ scanText (drop at (now (text .entry))) ⌝ }
 {
-    let none = state::no_set();
+    let none = sets::no_set();
     let mut name = none.name;
     let mut tasks = none.tasks;
     let mut s = state::blank(state::SET_WORD);
