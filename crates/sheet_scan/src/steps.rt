@@ -8,6 +8,13 @@ ghost use Prim.Native.Nat.{_<_};
 ghost use lib.ListN.{length, getD};
 ghost use Rattle.sheet_scan.specs.Steps.{wordAt, wordOf, nameOf, lineStart, stepOf, wholeAt};
 
+// The fixed words.
+const SET: [u8; 4] = *b"set ";
+
+const HARD: [u8; 5] = *b"hard ";
+
+const SOFT: [u8; 5] = *b"soft ";
+
 // The byte at a place of the word that the mode names.
 fn letter(mode: u8, at: u8) -> u8
     requires { ⌜ at < length (wordAt mode) ⌝ }
@@ -15,15 +22,12 @@ fn letter(mode: u8, at: u8) -> u8
 {
     let i = at as usize;
     if mode == state::SET_WORD {
-        let w = b"set ";
-        return w[i];
+        return SET[i];
     }
     if mode == state::HARD_WORD {
-        let w = b"hard ";
-        return w[i];
+        return HARD[i];
     }
-    let w = b"soft ";
-    w[i]
+    SOFT[i]
 }
 
 // The length of that word.

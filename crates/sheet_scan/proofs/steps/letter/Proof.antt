@@ -18,37 +18,35 @@ past-set c = wordAt-kind (c .before .args .mode) (c .if1 .left)
 inside : (c : tie.Else1) → c .before .args .at < 5
 inside c = subst (λ n. c .before .args .at < n) (ap length (past-set c) ∙ kind-length (eqb (c .before .args .mode) 1)) (c .before .pre)
 
-element-copy-out-result : tie.Need-element-copy-out-result
-element-copy-out-result c = subst (λ l. c .before .before .args .at < length l) (wordAt-set (c .before .before .args .mode) (c .before .if1 .taken)) (c .before .before .pre)
+array-read-result : tie.Need-array-read-result
+array-read-result c = subst (λ l. c .before .args .at < length l) (wordAt-set (c .before .args .mode) (c .if1 .taken)) (c .before .pre)
 
 returns : tie.Need-returns
-returns c =
-    let c3 = c .before .before .before in
-    sym (ap (λ l. getD l (c3 .args .at) 0) (wordAt-set (c3 .args .mode) (c .before .before .if1 .taken)))
+returns c = sym (ap (λ l. getD l (c .before .args .at) 0) (wordAt-set (c .before .args .mode) (c .if1 .taken)))
 
-element-copy-out-result-2 : tie.Need-element-copy-out-result-2
-element-copy-out-result-2 c = inside (c .before .before)
+array-read-result-2 : tie.Need-array-read-result-2
+array-read-result-2 c = inside (c .before)
 
 returns-2 : tie.Need-returns-2
 returns-2 c =
-    let e = c .before .before .before in
-    sym (ap (λ l. getD l (e .before .args .at) 0) (past-set e ∙ ap kindText (eq-eqb (e .before .args .mode) 1 (c .before .before .if2 .taken))))
+    let a = c .before .before .args in
+    sym (ap (λ l. getD l (a .at) 0) (past-set (c .before) ∙ ap kindText (eq-eqb (a .mode) 1 (c .if2 .taken))))
 
-element-copy-out-result-3 : tie.Need-element-copy-out-result-3
-element-copy-out-result-3 c = inside (c .before .before)
+array-read-result-3 : tie.Need-array-read-result-3
+array-read-result-3 c = inside (c .before)
 
 returns-3 : tie.Need-returns-3
 returns-3 c =
-    let e = c .before .before .before in
-    sym (ap (λ l. getD l (e .before .args .at) 0) (past-set e ∙ ap kindText (ne-eqb (e .before .args .mode) 1 (c .before .before .if2 .left))))
+    let a = c .before .before .args in
+    sym (ap (λ l. getD l (a .at) 0) (past-set (c .before) ∙ ap kindText (ne-eqb (a .mode) 1 (c .if2 .left))))
 
 pub letter-spec : {M : Type 1} → statement M
 letter-spec =
     tie.close
     (tie.spec
-    element-copy-out-result
+    array-read-result
     returns
-    element-copy-out-result-2
+    array-read-result-2
     returns-2
-    element-copy-out-result-3
+    array-read-result-3
     returns-3)
