@@ -1,3 +1,4 @@
 pub mod Fields
 pub mod Steps
 pub mod After
+pub mod Fitted

@@ -1,2 +1,3 @@
+mod Fitted
 mod Kept
 mod LineLaws

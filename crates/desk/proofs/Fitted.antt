@@ -1,0 +1,120 @@
+-- A command that is taken leaves each buffer's length at most its most.
+use mathlib.Core.Bool.{Bool, true, false, _||_, cond}
+use mathlib.Core.List.{List}
+use mathlib.Core.Path.{_≡_, refl}
+use Prim.Native.Nat.{ℕ, _+_, _^_, _≤_}
+use native.Mathlib.Nat.{mod-le}
+use native.Mathlib.Omega.{arith}
+use borrow.Author.Tests.{eqb-true, eqb-false, ne-eqb, le-ltb}
+use lib.Dec.{eqb, leb}
+use lib.ListN.{length, take, length-drop}
+use Rattle.commands.specs.declared.forms.Values.{Values}
+use Rattle.commands.specs.declared.lines.Command.{Command}
+use Rattle.commands.specs.Buffers.{mostOf}
+use Rattle.commands.specs.Kinds as kind
+use Rattle.commands.specs.Taken.{Within}
+use Rattle.tasks.specs.declared.sets.Set.{Set}
+use Rattle.tasks.proofs.Valid.{passed-valid}
+use Rattle.table_file.specs.declared.opener.Opened.{Opened}
+use Rattle.table_file.specs.declared.opener.Opened.the-variants.{Opens, Refused}
+use Rattle.table_file.specs.Files.{headerLength}
+use Rattle.table_file.specs.Open.{openOf, partOf, handed}
+use Rattle.table_file.proofs.Opening.{opening}
+use Rattle.desk_buffers.specs.Buffers.{Buffers, lengthAfter, buffersAfter}
+use Rattle.desk.specs.After.{either, openedLength, Built′, written, opened, TablesAfter, Held, heldOf, noDesk, setHeld, runHeld, bufferHeld, TablesHeld, CommandAfter}
+use Rattle.desk.specs.Fitted.{Fitted}
+
+-- ONE BUFFER
+
+length-fits : (k : ℕ) (vs : Values) (n m : ℕ) → (k ≡ kind.fill → vs .second ≤ m) → (k ≡ kind.cut → vs .second ≤ m) → n ≤ m → lengthAfter k vs n ≤ m
+unfolding lengthAfter
+length-fits k vs n m p q h = step (eqb k kind.fill) (eqb k kind.cut) refl refl
+  where
+    step : (t u : Bool) → eqb k kind.fill ≡ t → eqb k kind.cut ≡ u → cond (t || u) (vs .second) n ≤ m
+    step true u e g = p (eqb-true k kind.fill e)
+    step false true e g = q (eqb-true k kind.cut g)
+    step false false e g = h
+
+most-table : (b : ℕ) → b ≡ 0 → mostOf b ≡ 65536
+unfolding mostOf
+most-table b e = rw e
+
+most-work : (b : ℕ) → b ≡ 1 → mostOf b ≡ 65536
+unfolding mostOf
+most-work b e = rw e
+
+most-file : (b : ℕ) → b ≡ 2 → mostOf b ≡ 70000
+unfolding mostOf
+most-file b e = rw e
+
+most-text : (b : ℕ) → (b ≡ 0 → ⊥) → (b ≡ 1 → ⊥) → (b ≡ 2 → ⊥) → mostOf b ≡ 1200
+unfolding mostOf
+most-text b p q r =
+    let h : 2 ≤ b = omega arith in
+    simp (le-ltb b 2 h, ne-eqb b 2 r)
+
+-- THE FOUR
+
+module _ (c : Command) (line : List ℕ) (b : Buffers) (w : Within (b .lengths) c) (f : Fitted (b .lengths)) where
+  abbrev k : ℕ
+  k = c .kind
+
+  abbrev vs : Values
+  vs = c .values
+
+  fits : (n m : ℕ) → mostOf (vs .first) ≡ m → n ≤ m → lengthAfter k vs n ≤ m
+  fits n m e h = length-fits k vs n m (λ p. omega (arith, w .filled p)) (λ p. omega (arith, w .cut p)) h
+
+  buffers-fitted : Fitted (buffersAfter k vs line b .lengths)
+  unfolding buffersAfter
+  buffers-fitted = step (eqb k kind.text) (eqb (vs .first) 0) (eqb (vs .first) 1) (eqb (vs .first) 2) refl refl refl refl
+    where
+      step : (a t u v : Bool) → eqb k kind.text ≡ a → eqb (vs .first) 0 ≡ t → eqb (vs .first) 1 ≡ u → eqb (vs .first) 2 ≡ v → Fitted (buffersAfter k vs line b .lengths)
+      step true t u v p q r s = rw p (record { table = f .table; work = f .work; file = f .file; text = omega (arith, mod-le (b .lengths .text + vs .first) (2 ^ 32), w .added (eqb-true k kind.text p)) })
+      step false true u v p q r s = rw (p, q) (record { table = fits (b .lengths .table) 65536 (most-table _ (eqb-true _ 0 q)) (f .table); work = f .work; file = f .file; text = f .text })
+      step false false true v p q r s = rw (p, q, r) (record { table = f .table; work = fits (b .lengths .work) 65536 (most-work _ (eqb-true _ 1 r)) (f .work); file = f .file; text = f .text })
+      step false false false true p q r s = rw (p, q, r, s) (record { table = f .table; work = f .work; file = fits (b .lengths .file) 70000 (most-file _ (eqb-true _ 2 s)) (f .file); text = f .text })
+      step false false false false p q r s =
+          rw (p, q, r, s) (record { table = f .table; work = f .work; file = f .file; text = fits (b .lengths .text) 1200 (most-text _ (eqb-false _ 0 q) (eqb-false _ 1 r) (eqb-false _ 2 s)) (f .text) })
+
+-- TABLE AND FILE
+
+-- what a file that opens hands back is a table of at most 60,000 bytes
+opened-fits : (s : Set) (file : List ℕ) (n : ℕ) → n ≤ 65536 → openedLength (openOf s file) (handed s file) n ≤ 65536
+opened-fits s file n h = step (openOf s file) refl
+  where
+    step : (o : Opened) → openOf s file ≡ o → openedLength o (partOf s file o) n ≤ 65536
+    step Opens e =
+        let v = opening s file e in
+        omega (arith, v .long, length-drop (headerLength s) file, passed-valid s (v .set) .states)
+    step (Refused r) e = h
+
+tables-fitted : (s : Set) (b : Buffers) (k : ℕ) (b′ : Buffers) → TablesAfter s b k b′ → Fitted (b .lengths) → Fitted (b′ .lengths)
+unfolding TablesAfter
+tables-fitted s b k b′ h f = step (eqb k kind.build) (eqb k kind.testTable) (eqb k kind.write) h
+  where
+    step : (t u v : Bool) → either t (Built′ s b b′) (b′ ≡ cond u b (cond v (written s b) (opened s b))) → Fitted (b′ .lengths)
+    step true u v a = rw (a .after) f
+    step false true v a = rw a f
+    step false false true a = rw a f
+    step false false false a =
+        rw a (record { table = opened-fits s (take (b .lengths .file) (b .file)) (b .lengths .table) (f .table); work = f .work; file = f .file; text = f .text })
+
+-- ALL
+
+-- a command that is taken leaves every length at most its most
+pub command-fitted : (c : Command) (line : List ℕ) (h h′ : Held) → Within (h .buffers .lengths) c → CommandAfter (c .kind) (c .values) line h h′ →
+    Fitted (h .buffers .lengths) → Fitted (h′ .buffers .lengths)
+unfolding CommandAfter
+command-fitted c line h h′ w a f = step (eqb (c .kind) kind.reset) (leb (c .kind) kind.text) (leb (c .kind) kind.testSet) (leb (c .kind) kind.openFile) a
+  where
+    step : (t u v x : Bool) →
+        either t (h′ ≡ heldOf noDesk (h .buffers .table) (h .buffers .work) (h .buffers .file) (h .buffers .text))
+        (either u (h′ ≡ bufferHeld (c .kind) (c .values) line h)
+        (either v (h′ ≡ setHeld (c .kind) (c .values) line h)
+        (either x (TablesHeld (c .kind) (c .values) line h h′) (h′ ≡ runHeld (c .kind) (c .values) line h)))) → Fitted (h′ .buffers .lengths)
+    step true u v x e = rw e (record { table = omega arith; work = omega arith; file = omega arith; text = omega arith })
+    step false true v x e = rw e (buffers-fitted c line (h .buffers) w f)
+    step false false true x e = rw e f
+    step false false false true e = tables-fitted (h .set) (h .buffers) (c .kind) (h′ .buffers) (e .buffers) f
+    step false false false false e = rw e f
