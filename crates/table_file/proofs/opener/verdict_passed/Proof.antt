@@ -12,26 +12,30 @@ returns : tie.Need-returns
 returns c = c .refused .ensures ∙ sym (open-short (c .before .before .before .args .s) (c .before .before .before .args .file .now) (c .before .if1 .taken))
 
 returns-2 : tie.Need-returns-2
-returns-2 c = let s = c .before .before .before .before .before .args .s in
-    let f = c .before .before .before .before .before .args .file .now in
+returns-2 c = let b = c .before .before .before .before .before in
+    let s = b .args .s in
+    let f = b .args .file .now in
     c .refused2 .ensures ∙ sym (open-mark s f (c .before .before .before .if1 .left) (omega (arith, c .before .before .first-difference .ensures, c .before .if2 .taken)))
 
 returns-3 : tie.Need-returns-3
-returns-3 c = let s = c .before .before .before .before .before .before .before .args .s in
-    let f = c .before .before .before .before .before .before .before .args .file .now in
+returns-3 c = let b = c .before .before .before .before .before .before .before in
+    let s = b .args .s in
+    let f = b .args .file .now in
     c .refused3 .ensures ∙ sym (open-version s f (c .before .before .before .before .before .if1 .left) (omega (arith, c .before .before .before .before .first-difference .ensures, c .before .before .before .if2 .left)) (omega (arith, c .before .before .first-difference2 .ensures, c .before .if3 .taken)))
 
 first-difference-requires-3 : tie.Need-first-difference-requires-3
-first-difference-requires-3 c κs = let s = c .before .before .before .before .before .before .before .args .s in
-    let f = c .before .before .before .before .before .before .before .args .file .now in
+first-difference-requires-3 c κs = let b = c .before .before .before .before .before .before .before in
+    let s = b .args .s in
+    let f = b .args .file .now in
     let p = present-le s f in
     let e = c .bytes-present .ensures in
-    (c .before .before .before .before .before .before .before .pre .0, c .before .before .before .before .before .before .before .pre .1, omega (arith, p .2 (c .before .before .before .before .before .if1 .left)), omega (arith, p .0), omega (arith, p .1))
+    (b .pre .0, b .pre .1, omega (arith, p .2 (c .before .before .before .before .before .if1 .left)), omega (arith, p .0), omega (arith, p .1))
 
 cast-refused : tie.Need-cast-refused
-cast-refused c = let s = c .before .before .before .before .before .before .before .before .before .args .s in
-    let f = c .before .before .before .before .before .before .before .before .before .args .file .now in
-    omega (arith, present-le s f .0, c .before .before .bytes-present .ensures, passed-valid s (c .before .before .before .before .before .before .before .before .before .pre .0) .count .1)
+cast-refused c = let b = c .before .before .before .before .before .before .before .before .before in
+    let s = b .args .s in
+    let f = b .args .file .now in
+    omega (arith, present-le s f .0, c .before .before .bytes-present .ensures, passed-valid s (b .pre .0) .count .1)
 
 returns-4 : tie.Need-returns-4
 returns-4 c = let d = c .before .before in
@@ -44,10 +48,11 @@ returns-4 c = let d = c .before .before in
     (e .bytes-present .result) (d .first-difference3 .result) (e .bytes-present .ensures) (d .first-difference3 .ensures) (c .before .if4 .taken))
 
 cast-refused-2 : tie.Need-cast-refused-2
-cast-refused-2 c = let s = c .before .before .before .before .before .before .before .before .before .before .before .args .s in
-    let f = c .before .before .before .before .before .before .before .before .before .before .before .args .file .now in
-    let v = passed-valid s (c .before .before .before .before .before .before .before .before .before .before .before .pre .0) in
-    omega (arith, v .count .1, v .states, c .before .before .before .before .before .before .before .before .before .before .before .pre .1, c .before .header-length .ensures)
+cast-refused-2 c = let b = c .before .before .before .before .before .before .before .before .before .before .before in
+    let s = b .args .s in
+    let f = b .args .file .now in
+    let v = passed-valid s (b .pre .0) in
+    omega (arith, v .count .1, v .states, b .pre .1, c .before .header-length .ensures)
 
 returns-5 : tie.Need-returns-5
 returns-5 c = let d = c .before .before .before .before in
