@@ -1,10 +1,10 @@
 """The oracle's self-test. Exits with 1 if there is a difference.
 
 First the figures of document 01 (P1 to P12 and the others), then the
-cases in which two careful readers could differ (numbered 1 to 26),
-then comparisons of the oracle with slower or
-different definitions of the same things, then replay, the example of
-docs/REPLAY.md, made batches and the stored batch.
+cases in which two careful readers could differ, then comparisons of
+the oracle with slower or different definitions of the same things,
+then replay, the example of docs/REPLAY.md, made batches and the
+stored batch.
 """
 
 import sys

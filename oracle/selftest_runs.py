@@ -1,4 +1,4 @@
-"""Readings 18 to 26: table files, runs, the report program."""
+"""Readings of table files, runs, and the report program."""
 
 import files
 import replay

@@ -1,4 +1,4 @@
-"""Readings 1 to 17: sets, tick and shield, sheets."""
+"""Readings of sets, tick and shield, and sheets."""
 
 import files
 import game

@@ -4,7 +4,6 @@ use crate::runs::Awaited;
 use crate::runs::Counts;
 use crate::runs::Run;
 use crate::runs::Taken;
-use game::states::Job;
 use game::states::TaskState;
 use game::ticks;
 use game::ticks::Flags;

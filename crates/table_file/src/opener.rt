@@ -98,7 +98,7 @@ pub fn verdict(s: Set, file: &[u8]) -> Opened
     }
 }
 
-// The table part of a file that opens for a set; of any other, its first zero bytes.
+// The table part of a file that opens for a set; of any other, an empty part.
 pub fn open<'a>(s: Set, file: &'a [u8]) -> &'a [u8]
     ensures { λ r. ⌜ now r ≡ handed s (now (file .entry)) ⌝ }
 {
