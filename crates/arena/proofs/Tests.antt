@@ -1,6 +1,6 @@
 -- What a test that passed says (`-at`), what makes it pass (`-by`), and what one that failed says (`-fails`).
 -- Assumes nothing.
-use mathlib.Core.Path.{_≡_, refl, subst, sym, ap₂}
+use mathlib.Core.Path.{_≡_, refl, subst, sym, ap, _∙_, ap₂}
 use mathlib.Core.Logic.{_⊎_, inl, inr, ⊎-elim}
 use mathlib.Core.Bool.{Bool, true, false, not, _&&_, _||_, cond, Bool·beq}
 use mathlib.Core.List.{List, [], _∷_, List·Memᴰ·head, List·Memᴰ·tail}
@@ -238,13 +238,30 @@ module _ (f : ℕ → Bool) where
   pub first-below : (n : ℕ) → T (anyBelow n f) → T (f (first f n 0))
   first-below n t = let w = anyBelow-at n f t in first-at n 0 (w .0) (omega arith) (omega (arith, w .1)) (w .2)
 
-  -- a first below the end passes, and where none passes there is none below the end
+  -- a first below the end passes
   pub first-hit : (n k : ℕ) → first f n k < k + n → T (f (first f n k))
   first-hit zero k = λ h. let z : ⊥ = omega arith in absurd z
   first-hit (suc n) k = by-cond (λ m. m < k + suc n → T (f m)) (f k) k (first f n (suc k)) (λ t h. t) (λ _ h. first-hit n (suc k) (omega arith))
 
-  pub first-none : (n : ℕ) → ((j : ℕ) → j < n → f j ≡ false) → n ≤ first f n 0
-  first-none n h = ⊎-elim (λ l. absurd (subst T (h (first f n 0) l) (first-hit n 0 (omega arith)))) (λ l. l) (lt-or-le (first f n 0) n)
+  -- where none passes it is the end
+  pub first-none : (n k : ℕ) → ((j : ℕ) → k ≤ j → j < k + n → f j ≡ false) → first f n k ≡ k + n
+  first-none zero k h = omega arith
+  first-none (suc n) k h =
+      ap (λ b. cond b k (first f n (suc k))) (h k (omega arith) (omega arith)) ∙ first-none n (suc k) (λ j p q. h j (omega arith) (omega arith)) ∙ omega arith
+
+  pub none-below : (n : ℕ) → ((j : ℕ) → j < n → f j ≡ false) → n ≤ first f n 0
+  none-below n h = omega (arith, first-none n 0 (λ j _ q. h j (omega arith)))
+
+  -- one that passes, with none before it
+  pub first-is : (n k j : ℕ) → k ≤ j → j < k + n → ((i : ℕ) → k ≤ i → i < j → f i ≡ false) → f j ≡ true → first f n k ≡ j
+  first-is zero k j l b h e = let z : ⊥ = omega arith in absurd z
+  first-is (suc n) k j l b h e = ⊎-elim here (λ m. later m (first-is n (suc k) j m (omega arith) (λ i p q. h i (omega arith) q) e)) (eq-or-lt-of-le l)
+    where
+      here : k ≡ j → cond (f k) k (first f n (suc k)) ≡ j
+      here q = ap (λ b. cond b k (first f n (suc k))) (ap f q ∙ e) ∙ q
+
+      later : k < j → first f n (suc k) ≡ j → cond (f k) k (first f n (suc k)) ≡ j
+      later m r = ap (λ b. cond b k (first f n (suc k))) (h k (omega arith) m) ∙ r
 
 -- where two tests agree in range, so do their firsts
 pub first-cong : (f g : ℕ → Bool) (n k : ℕ) → ((j : ℕ) → k ≤ j → j < k + n → f j ≡ g j) → first f n k ≡ first g n k

@@ -31,11 +31,12 @@ serves s xs e = not (eqb e 0) && allBelow 8 (servesFor s xs e)
 abbrev pub slack : Set → List TaskState → ℕ → ℕ
 slack s xs k = taskAt s k .deadline - stateAt xs k .age
 
--- the task with less D minus age, of the best so far, 0 for none, and task k + 1
+-- task k + 1 has less D minus age than the best so far, or there is none, 0
 abbrev pub closer : Set → List TaskState → ℕ → ℕ → Bool
 closer s xs zero k = true
 closer s xs (suc b) k = ltb (slack s xs k) (slack s xs b)
 
+-- the better of the best so far and task k + 1, if that is allowed
 unfoldable pub better : Set → List TaskState → ℕ → ℕ → ℕ → ℕ
 better s xs e best k = cond (names e (k + 1) && closer s xs best k) (k + 1) best
 

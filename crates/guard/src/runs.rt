@@ -113,7 +113,7 @@ fn fresh_counts(n: usize) -> [Counts; 7]
     ]
 }
 
-// The run at the start, for n tasks; for none, a run of zeros with no job.
+// The run at the start, for n tasks; for none, at reading 0, a run of zeros with no job.
 pub fn fresh_run(n: usize, reading: u32) -> Run
     ensures { λ r. ⌜ r ≡ startRun n reading ⌝ }
 {

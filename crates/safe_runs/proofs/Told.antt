@@ -14,7 +14,7 @@ use borrow.Author.Tests.{le-ltb, eq-eqb, ne-eqb}
 use Rattle.arena.specs.Tests.{_∈_}
 use Rattle.arena.specs.Arena.{out}
 use Rattle.arena.specs.Arena as arena
-use Rattle.arena.proofs.Tests.{nor, and-left, T-true, T-false, not-not, decide, first-none}
+use Rattle.arena.proofs.Tests.{nor, and-left, T-true, T-false, not-not, decide, none-below}
 use Rattle.tasks.specs.declared.sets.Set.{Set}
 use Rattle.tasks.specs.Sets.{taskAt, statesTo}
 use Rattle.game.specs.declared.states.TaskState.{TaskState}
@@ -108,7 +108,7 @@ module _ (s : Set) (xs : List TaskState) (i : ℕ) (same : (j : ℕ) → j < s .
   -- names an outcome, if it is not stray
   pub says-named : T (not (strays s o)) → T (not (impossible s xs o))
   unfolding impossible tickAt
-  says-named t = neither (strays s o) _ (T-false (strays s o) t) (le-ltb _ (s .count) (first-none _ (s .count) possible))
+  says-named t = neither (strays s o) _ (T-false (strays s o) t) (le-ltb _ (s .count) (none-below _ (s .count) possible))
     where
       possible : (j : ℕ) → j < s .count → isSuch false (tickOf (taskAt s j) (eqb (o .choice) (suc j)) (stateAt xs j) (flagsAt o j)) ≡ false
       possible j h =

@@ -1,7 +1,7 @@
 -- What reading answers, refusal by refusal. Assumes nothing.
 use mathlib.Core.Path.{_≡_, refl, ap, subst⁻¹, _∙_}
 use mathlib.Core.Bool.{false, _&&_}
-use mathlib.Core.List.{List, [], _∷_, _++_}
+use mathlib.Core.List.{List, [], _∷_, _++_, Memᴰ·append-right}
 use Prim.Native.Nat.{ℕ, suc, _+_, _≤_, _<_}
 use native.Mathlib.Omega.{arith}
 use lib.Dec.{ltb, nltb→le}
@@ -11,12 +11,14 @@ use Rattle.tasks.specs.declared.refusals.Refusal.{Refusal}
 use Rattle.tasks.specs.declared.sets.Set.{Set}
 use Rattle.tasks.specs.declared.sets.Tested.{Tested}
 use Rattle.tasks.specs.declared.sets.Tested.the-variants.{States, Refused as FailedWith}
-use Rattle.tasks.specs.Refusals.{Said, answered, refusing, sheetTooLong, sheetForm, badRecord, tooManyStates}
+use Rattle.tasks.specs.Refusals.{Said, answered, refusing, sheetTooLong, sheetForm, badRecord, tooManyStates, sheetNumbers}
 use Rattle.tasks.specs.Sets.{noSet, refuseOr, statesOf, testStates, testSet}
 use Rattle.sheet_form.specs.Form.{Line, Each, longest, Member, FaultAt, Form, fits, stops}
 use Rattle.sheet_form.specs.Sets.{rising, setOf, lineFault, lowestLine}
-use Rattle.tasks.proofs.Valid.{refused-number}
+use Rattle.arena.specs.Tests.{_∈_}
 use Rattle.arena.proofs.Tests.{by-cond}
+use Rattle.tasks.proofs.Numbers.{listed-in, between}
+use Rattle.tasks.proofs.Valid.{refused-number, refused-listed}
 use Rattle.sheet_form.proofs.Faults.{lines-tested, lowest-at, not-rising}
 use Rattle.sheet_form.proofs.Places.{form}
 use Rattle.sheet_reader.specs.declared.SheetRead.{SheetRead}
@@ -96,31 +98,31 @@ module _ (t : List ℕ) (m : Member t) (h : length t ≤ longest) where
     unfolding testStates
     set-read n = ap saidRead by-states ∙ rw (le-ltb 60000 (statesOf its-set) n) refl
 
--- EVERY REFUSAL has a number of 1 to 6, and a set of zeros beside it
+-- EVERY REFUSAL has one of the numbers of reading a sheet, 1 to 6, and a set of zeros beside it
 
 data Fair : SheetRead → Type 0 where
   taken : (s : Set) → Fair (record { answer = Taken; set = s })
-  refused : (f : Refusal) → 1 ≤ f .number → f .number ≤ 6 → Fair (refusedWith f)
+  refused : (f : Refusal) → f .number ∈ sheetNumbers → Fair (refusedWith f)
 
 fair-tested : (s : Set) (r : Tested) → testSet s ≡ r → Fair (testedRead s r)
 fair-tested s (States n) e = taken s
-fair-tested s (FailedWith f) e = let k = refused-number s f e in refused f (omega arith) (omega arith)
+fair-tested s (FailedWith f) e = refused f (Memᴰ·append-right (sheetTooLong ∷ sheetForm ∷ []) (refused-listed s f e))
 
 fair-formed : (t : List ℕ) (f : Form t) → Fair (formRead t f)
-fair-formed t (stops p e) = refused (record { number = sheetForm; place = p }) (omega arith) (omega arith)
+fair-formed t (stops p e) = refused (record { number = sheetForm; place = p }) (listed-in sheetForm sheetNumbers tt)
 fair-formed t (fits m) = fair-tested (setOf (m .sheet)) (testSet (setOf (m .sheet))) refl
 
 fair : (t : List ℕ) → Fair (readText t)
 unfolding readText
 fair t =
-    by-cond Fair (ltb longest (length t)) _ _ (λ b. refused (record { number = sheetTooLong; place = 0 }) (omega arith) (omega arith)) (λ b. fair-formed t (form t))
+    by-cond Fair (ltb longest (length t)) _ _ (λ b. refused (record { number = sheetTooLong; place = 0 }) (listed-in sheetTooLong sheetNumbers tt)) (λ b. fair-formed t (form t))
 
-pub refused-said : (t : List ℕ) → 0 < said t .number → (said t .number ≤ 6) × (readText t .set ≡ noSet) × (said t .values ≡ replicate 45 0)
+pub refused-said : (t : List ℕ) → 0 < said t .number → (said t .number ∈ sheetNumbers) × (readText t .set ≡ noSet) × (said t .values ≡ replicate 45 0)
 refused-said t = go (fair t)
   where
-    go : {r : SheetRead} → Fair r → 0 < saidRead r .number → (saidRead r .number ≤ 6) × (r .set ≡ noSet) × (saidRead r .values ≡ replicate 45 0)
+    go : {r : SheetRead} → Fair r → 0 < saidRead r .number → (saidRead r .number ∈ sheetNumbers) × (r .set ≡ noSet) × (saidRead r .values ≡ replicate 45 0)
     go (taken s) h = let z : ⊥ = omega arith in absurd z
-    go (refused f l u) h = (u, refl, refl)
+    go (refused f m) h = (m, refl, refl)
 
 -- so an answer without a number is a set that was taken
 pub read-taken : (t : List ℕ) (q : SheetRead) → q ≡ readText t → saidRead q .number ≡ 0 → q .answer ≡ Taken
@@ -128,7 +130,7 @@ read-taken t q e = subst⁻¹ (λ r. saidRead r .number ≡ 0 → r .answer ≡ 
   where
     go : {r : SheetRead} → Fair r → saidRead r .number ≡ 0 → r .answer ≡ Taken
     go (taken s) g = refl
-    go (refused f l u) g = let z : ⊥ = omega arith in absurd z
+    go (refused f m) g = absurd (omega (arith, between 1 6 sheetNumbers tt (f .number) m .0))
 
 -- WHERE A READER THEN STANDS: at the end of a sheet, at the place of a fault of form, and where it was in a text that is too long (`reach-long`)
 

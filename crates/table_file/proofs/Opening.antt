@@ -3,14 +3,13 @@ use mathlib.Core.Path.{_≡_, refl, sym, ap, _∙_}
 use mathlib.Core.Logic.{⊎-elim}
 use mathlib.Core.Bool.{Bool, true, false, not, _||_, cond}
 use mathlib.Core.List.{List}
-use Prim.Native.Nat.{ℕ, zero, suc, _+_, _-_, _≤_, _<_}
-use native.Mathlib.Nat.{eq-or-lt-of-le}
+use Prim.Native.Nat.{ℕ, _-_, _≤_, _<_}
 use native.Mathlib.Omega.{arith}
 use lib.Dec.{T, eqb, ltb, eqb→eq, nltb→le}
 use lib.ListN.{length, getD, drop}
 use borrow.Author.Tests.{eq-eqb, ne-eqb}
 use Rattle.arena.specs.Tests.{first}
-use Rattle.arena.proofs.Tests.{nor, not-not, lt-or-le, first-least}
+use Rattle.arena.proofs.Tests.{nor, not-not, lt-or-le, first-least, first-none, first-is}
 use Rattle.tasks.specs.declared.refusals.Refusal.{Refusal}
 use Rattle.tasks.specs.declared.sets.Set.{Set}
 use Rattle.tasks.specs.declared.sets.Tested.{Tested}
@@ -45,23 +44,6 @@ cond-else false f x e = (tt, e)
 test-passes : (v : Verdict) → openVerdict v ≡ Opens → v ≡ Passes
 test-passes Passes e = refl
 test-passes (Verdict.Refused f) e = let z : _≡_ {A = ℕ} 0 1 = cc in absurd (omega arith)
-
--- none that passes from k on
-first-none : (f : ℕ → Bool) (n k : ℕ) → ((j : ℕ) → k ≤ j → j < k + n → f j ≡ false) → first f n k ≡ k + n
-first-none f zero k h = omega arith
-first-none f (suc n) k h =
-    ap (λ b. cond b k (first f n (suc k))) (h k (omega arith) (omega arith)) ∙ first-none f n (suc k) (λ j p q. h j (omega arith) (omega arith)) ∙ omega arith
-
--- the first that passes from k on
-first-is : (f : ℕ → Bool) (n k j : ℕ) → k ≤ j → j < k + n → ((i : ℕ) → k ≤ i → i < j → f i ≡ false) → f j ≡ true → first f n k ≡ j
-first-is f zero k j l b h e = let z : ⊥ = omega arith in absurd z
-first-is f (suc n) k j l b h e = ⊎-elim here (λ m. later m (first-is f n (suc k) j m (omega arith) (λ i p q. h i (omega arith) q) e)) (eq-or-lt-of-le l)
-  where
-    here : k ≡ j → cond (f k) k (first f n (suc k)) ≡ j
-    here q = ap (λ b. cond b k (first f n (suc k))) (ap f q ∙ e) ∙ q
-
-    later : k < j → first f n (suc k) ≡ j → cond (f k) k (first f n (suc k)) ≡ j
-    later m r = ap (λ b. cond b k (first f n (suc k))) (h k (omega arith) m) ∙ r
 
 module _ (s : Set) (file : List ℕ) where
   -- bytes that do not differ

@@ -1,4 +1,4 @@
--- The report is within the text: what is written is what was reported.
+-- The report's length is within the text.
 use mathlib.Core.Path.{sym}
 use lib.Seq.{length-take-le}
 use borrow.Author.Needs.{needs}
