@@ -1,5 +1,8 @@
 // Walks a run with the built table of one set, with so many asks and reports more at each tick, to be timed from outside.
 // Standard input: the count, seven records of six bytes, and three 16-bit numbers, of ticks, of asks and of reports a tick.
+use bench_input::put_number;
+use bench_input::sum;
+use bench_input::wide;
 use game::states::Job;
 use game::states::TaskState;
 use guard::asks;
@@ -17,16 +20,7 @@ use tasks::lists;
 use tasks::sets::Set;
 use tasks::sets::Task;
 
-fn put_number(text: &[u8], n: u64) {
-    io::write_all(STDOUT_FILENO, text);
-    io::print_decimal(STDOUT_FILENO, n);
-}
-
-fn sum(a: u32, b: u32) -> u32 {
-    std::num::wrapping_add_u32(a, b)
-}
-
-// A number for an answer: the sum of all is printed, so that none can be left out.
+// A number for an answer.
 fn of_asked(a: Asked) -> u32 {
     let answer = a.answer;
     let run = a.run;
@@ -46,35 +40,6 @@ fn of_run(r: Run, j: u16) -> u32 {
 fn of_reported(a: Reported, j: u16) -> u32 {
     let run = a.run;
     of_run(run, j)
-}
-
-fn wide(low: u8, high: u8) -> u16 {
-    high as u16 * 256 + low as u16
-}
-
-fn record(kind: u8, deadline: u8, runs: u16, gaps: u16) -> Task {
-    Task {
-        kind: kind,
-        deadline: deadline,
-        runs: runs,
-        gaps: gaps,
-    }
-}
-
-fn set(b: [u8; 49]) -> Set {
-    Set {
-        name: *b"BENCH\0\0\0\0\0\0\0\0\0\0\0",
-        count: b[0],
-        tasks: [
-            record(b[1], b[2], wide(b[3], b[4]), wide(b[5], b[6])),
-            record(b[7], b[8], wide(b[9], b[10]), wide(b[11], b[12])),
-            record(b[13], b[14], wide(b[15], b[16]), wide(b[17], b[18])),
-            record(b[19], b[20], wide(b[21], b[22]), wide(b[23], b[24])),
-            record(b[25], b[26], wide(b[27], b[28]), wide(b[29], b[30])),
-            record(b[31], b[32], wide(b[33], b[34]), wide(b[35], b[36])),
-            record(b[37], b[38], wide(b[39], b[40]), wide(b[41], b[42])),
-        ],
-    }
 }
 
 // Jobs finish and arrive as late as they can.
@@ -182,18 +147,20 @@ fn ticks(s: Set, table: &[u8], n: u16, asks: u16, reports: u16) -> Run {
 }
 
 fn main() {
-    let mut b = [0; 49];
+    let mut b = [0; 43];
+    let mut n = [0; 6];
     io::read_full(STDIN_FILENO, &mut b);
-    let s = set(b);
+    io::read_full(STDIN_FILENO, &mut n);
+    let s = bench_input::set(b);
     let mut table = [0; 60000];
     let mut work = [0; 60000];
     let _ = builder::build(s, &mut table, &mut work);
     let r = ticks(
         s,
         &table,
-        wide(b[43], b[44]),
-        wide(b[45], b[46]),
-        wide(b[47], b[48]),
+        wide(n[0], n[1]),
+        wide(n[2], n[3]),
+        wide(n[4], n[5]),
     );
     put_number(b"ticks ", r.ticks as u64);
     put_number(b" substitutions ", r.substitutions as u64);

@@ -1,23 +1,13 @@
 // Reads one sheet over and over, to be timed from outside.
 // Standard input: two 16-bit numbers, of reads and of bytes, and 1,024 bytes of which the first are the sheet's.
+use bench_input::put_number;
+use bench_input::sum;
+use bench_input::wide;
 use libc::STDIN_FILENO;
 use libc::STDOUT_FILENO;
 use sheet_reader::ReadAnswer;
 use sheet_reader::SheetRead;
 use tasks::sets::Set;
-
-fn put_number(text: &[u8], n: u64) {
-    io::write_all(STDOUT_FILENO, text);
-    io::print_decimal(STDOUT_FILENO, n);
-}
-
-fn sum(a: u32, b: u32) -> u32 {
-    std::num::wrapping_add_u32(a, b)
-}
-
-fn wide(low: u8, high: u8) -> u16 {
-    high as u16 * 256 + low as u16
-}
 
 // One record of a set, another each time, and a character of its name.
 fn of_set(s: Set, i: u16) -> u32 {

@@ -114,6 +114,7 @@ fn write_refused(set: Set) {
 
 fn main() {
     let mut cases = [0u8; 8192];
+    // Standard input.
     let n = io::read_full(0, &mut cases);
     read_all(&cases[..n]);
     let r = sheet::read(b"set PAIR\nhard 2 1 2\nhard 2 1 2\n");

@@ -1,6 +1,7 @@
 // Worked cases of lists, names, tasks and sets, a line each.
 use cases::lines::put;
 use cases::lines::put_number;
+use cases::lines::put_refusal;
 use cases::sets::V1;
 use cases::sets::V2;
 use cases::sets::V3;
@@ -57,18 +58,15 @@ fn put_characters() {
 // What the test of a set answers.
 fn put_tested(s: Set) {
     match sets::test(s) {
-        Tested::States(n) => put_number(b"states ", n as u64),
-        Tested::Refused(f) => {
-            put_number(b"refused ", f.number as u64);
-            put_number(b" place ", f.place as u64);
-        }
+        Tested::States(n) => put_number(b" states ", n as u64),
+        Tested::Refused(f) => put_refusal(f),
     }
     put(b"\n");
 }
 
 fn show(label: &[u8], s: Set) {
     put(label);
-    put(b": ");
+    put(b":");
     put_tested(s);
 }
 
@@ -92,7 +90,6 @@ fn show_name(label: &[u8], name: [u8; 16]) {
     put(b"name ");
     put(label);
     put_number(b": length ", sets::name_length(name) as u64);
-    put(b" ");
     put_tested(named(name, one(hard(1, V1, V1))));
 }
 
