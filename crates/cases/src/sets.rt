@@ -5,7 +5,7 @@ ghost use mathlib.Core.Path.{_≡_};
 ghost use mathlib.Core.List.{[], _∷_};
 ghost use lib.ListN.{replicate};
 ghost use Rattle.tasks.specs.Sets.{noTask};
-ghost use Rattle.tasks.specs.Examples.{PAIR, EXAMPLE};
+ghost use Rattle.tasks.specs.Examples.{soft, hard, PAIR, EXAMPLE};
 ghost use Rattle.cases.specs.Sets.{taskOf, recordsOf, caseOf, renamed};
 
 // A list of one value is named after it.
@@ -43,13 +43,13 @@ pub fn task(kind: u8, deadline: u8, runs: u16, gaps: u16) -> Task
 }
 
 pub fn soft(deadline: u8, runs: u16, gaps: u16) -> Task
-    ensures { λ r. ⌜ r ≡ taskOf 0 deadline runs gaps ⌝ }
+    ensures { λ r. ⌜ r ≡ soft deadline runs gaps ⌝ }
 {
     task(0, deadline, runs, gaps)
 }
 
 pub fn hard(deadline: u8, runs: u16, gaps: u16) -> Task
-    ensures { λ r. ⌜ r ≡ taskOf 1 deadline runs gaps ⌝ }
+    ensures { λ r. ⌜ r ≡ hard deadline runs gaps ⌝ }
 {
     task(1, deadline, runs, gaps)
 }
