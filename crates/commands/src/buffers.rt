@@ -13,6 +13,15 @@ pub struct Lengths {
     pub text: u32,
 }
 
+// Their numbers.
+pub const TABLE: u32 = 0;
+
+pub const WORK: u32 = 1;
+
+pub const FILE: u32 = 2;
+
+pub const TEXT: u32 = 3;
+
 // The most bytes of each buffer: of table and of work, of file, of text.
 pub const TABLE_MOST: u32 = 65536;
 
@@ -21,50 +30,50 @@ pub const FILE_MOST: u32 = 70000;
 pub const TEXT_MOST: u32 = 1200;
 
 // The present length of a buffer.
-pub fn length(lengths: Lengths, buffer: u32) -> u32
+pub(crate) fn length(lengths: Lengths, buffer: u32) -> u32
     ensures { λ r. ⌜ r ≡ lengthOf lengths buffer ⌝ }
 {
-    if buffer == 0 {
+    if buffer == TABLE {
         return lengths.table;
     }
-    if buffer == 1 {
+    if buffer == WORK {
         return lengths.work;
     }
-    if buffer == 2 {
+    if buffer == FILE {
         return lengths.file;
     }
     lengths.text
 }
 
 // The most bytes of a buffer.
-pub fn most(buffer: u32) -> u32
+pub(crate) fn most(buffer: u32) -> u32
     ensures { λ r. ⌜ r ≡ mostOf buffer ⌝ }
     ensures small { λ r. ⌜ r ≤ 70000 ⌝ }
 {
-    if buffer < 2 {
+    if buffer < FILE {
         return TABLE_MOST;
     }
-    if buffer == 2 {
+    if buffer == FILE {
         return FILE_MOST;
     }
     TEXT_MOST
 }
 
 // The buffer that a word names.
-pub fn named(word: &[u8]) -> Found
+pub(crate) fn named(word: &[u8]) -> Found
     ensures { λ r. ⌜ r ≡ bufferOf (now (word .entry)) ⌝ }
 {
     if texts::same(word, b"table") {
-        return Found::Value(0);
+        return Found::Value(TABLE);
     }
     if texts::same(word, b"work") {
-        return Found::Value(1);
+        return Found::Value(WORK);
     }
     if texts::same(word, b"file") {
-        return Found::Value(2);
+        return Found::Value(FILE);
     }
     if texts::same(word, b"text") {
-        return Found::Value(3);
+        return Found::Value(TEXT);
     }
     Found::Nothing
 }

@@ -33,7 +33,7 @@ fn letter_of(form: &[u8]) -> u8
     form[0]
 }
 
-// The lesser of two numbers and a difference that is not below 0.
+// The lesser of a and b - c, which is 0 where c is above b.
 fn least_left(a: u32, b: u32, c: u32) -> u64
     ensures { λ r. ⌜ r ≡ min a (b - c) ⌝ }
     ensures small { λ r. ⌜ r ≤ 4294967295 ⌝ }

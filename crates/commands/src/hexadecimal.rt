@@ -19,7 +19,7 @@ fn value(b: u8) -> u8
         return 16;
     }
     if b <= b'f' {
-        return b - 87;
+        return b - b'a' + 10;
     }
     16
 }

@@ -9,7 +9,7 @@ pub const POKE: usize = 3;
 
 pub const SHOW: usize = 4;
 
-// 5 is `sum`, the command on one buffer that is left then.
+// 5 is `sum`: no code asks for it, as it is the last command on a buffer.
 pub const TEXT: usize = 6;
 
 pub const READ: usize = 7;

@@ -32,6 +32,7 @@ enum Tried {
 }
 
 // From a place of the line and a place of the row on: each word has the value of its form, and there are as many words as forms.
+// No word is counted before its first byte is passed: `place ≤ at` bounds the count of words.
 fn fit_row(
     line: &[u8],
     at: usize,
@@ -65,7 +66,7 @@ fn fit_row(
     }
 }
 
-// From a place of the page on, where row `kind` begins: the first row that the line fits.
+// From a place of the page on, where row `kind` begins: the first row that the line fits; `kind ≤ from` bounds the count of rows.
 fn first_row(line: &[u8], page: &[u8], from: usize, kind: usize, lengths: Lengths) -> Parsed
     requires { ⌜ (from ≤ length (now page)) × (kind ≤ from) ⌝ }
     ensures { λ r. ⌜ r ≡ fitRows lengths kind (parts 10 (drop from (now (page .entry)))) (parts 32 (now (line .entry))) ⌝ }
@@ -100,6 +101,7 @@ pub fn parse(line: &[u8], lengths: Lengths) -> Parsed
     }
     first_row(
         line,
+        // U a buffer, L a length, O an offset, C a count, I a task, F 0 or 1, B a byte, H 16 bits, W 32 bits, N a name, T a text.
         b"reset\nfill U L B\ncut U L\npoke U O B\nshow U O C\nsum U\ntext T\nread\nsheet\nname N\ncount B\nkind I B\ndeadline I B\nruns I H\ngaps I H\nshow set\ntest set\nbuild\ntest table\nwrite\nopen\nstart W\nask B\nreport W F B\nshow run\nage I B\njob I B\njob I none\narrived I W\nfinished I W\nreplaced I W\nticks W\nsubstitutions W\nreading W\nawaited B\nawaited none",
         0,
         0,

@@ -7,7 +7,7 @@ use native.Mathlib.Nat.{mod-le}
 use native.Mathlib.Omega.{arith}
 use borrow.Author.Tests.{eqb-true, eqb-false, ne-eqb, le-ltb}
 use lib.Dec.{eqb, leb}
-use lib.ListN.{length, take, length-drop}
+use lib.ListN.{take, length-drop}
 use Rattle.commands.specs.declared.forms.Values.{Values}
 use Rattle.commands.specs.declared.lines.Command.{Command}
 use Rattle.commands.specs.Buffers.{mostOf}

@@ -6,6 +6,7 @@ use borrow.Author.Tests.{eq-eqb, ne-eqb, le-leb, lt-leb}
 use lib.ListN.{length, take, drop}
 use Rattle.commands.specs.declared.buffers.Lengths.{Lengths}
 use Rattle.commands.specs.declared.forms.Values.{Values}
+use Rattle.commands.specs.Kinds as kind
 use Rattle.tasks.specs.declared.sets.Task.{Task}
 use Rattle.tasks.specs.declared.sets.Set.{Set}
 use Rattle.guard.specs.declared.runs.Run.{Run}
@@ -23,62 +24,62 @@ set-is r n k ts e f g = rw (← e, ← f, ← g)
 -- TABLE AND FILE
 
 module _ (s : Set) (k : ℕ) (l : Lengths) (t w f x : List ℕ) where
-  pub build-step : k ≡ 17 → (mt mw : ℕ) → mt ≡ min (l .table) (length t) → mw ≡ min (l .work) (length w) → (t′ w′ : List ℕ) →
+  pub build-step : k ≡ kind.build → (mt mw : ℕ) → mt ≡ min (l .table) (length t) → mw ≡ min (l .work) (length w) → (t′ w′ : List ℕ) →
       Building s (take mt t) (take mw w) t′ w′ → TablesAfter s (buffersOf l t w f x) k (buffersOf l (t′ ++ drop mt t) (w′ ++ drop mw w) f x)
   unfolding TablesAfter
   build-step e mt mw ht hw t′ w′ b =
-      rw (eq-eqb k 17 e) (record {
+      rw (eq-eqb k kind.build e) (record {
         table′ = t′;
         work′ = w′;
         building = rw (← within-take (l .table) mt t ht, ← within-take (l .work) mw w hw) b;
         after = rw (within-drop (l .table) mt t ht, within-drop (l .work) mw w hw);
       })
 
-  module _ (n : k ≡ 17 → ⊥) where
-    pub test-step : k ≡ 18 → TablesAfter s (buffersOf l t w f x) k (buffersOf l t w f x)
+  module _ (n : k ≡ kind.build → ⊥) where
+    pub test-step : k ≡ kind.testTable → TablesAfter s (buffersOf l t w f x) k (buffersOf l t w f x)
     unfolding TablesAfter
-    test-step e = rw (ne-eqb k 17 n, eq-eqb k 18 e)
+    test-step e = rw (ne-eqb k kind.build n, eq-eqb k kind.testTable e)
 
-    module _ (n′ : k ≡ 18 → ⊥) where
-      pub write-step : k ≡ 19 → (mt mf : ℕ) → mt ≡ min (l .table) (length t) → mf ≡ min (l .file) (length f) → (f′ : List ℕ) →
+    module _ (n′ : k ≡ kind.testTable → ⊥) where
+      pub write-step : k ≡ kind.write → (mt mf : ℕ) → mt ≡ min (l .table) (length t) → mf ≡ min (l .file) (length f) → (f′ : List ℕ) →
           f′ ≡ fileAfter s (take mt t) (take mf f) → TablesAfter s (buffersOf l t w f x) k (buffersOf l t w (f′ ++ drop mf f) x)
       unfolding TablesAfter
       write-step e mt mf ht hf f′ h =
-          rw (ne-eqb k 17 n, ne-eqb k 18 n′, eq-eqb k 19 e, h, within-take (l .table) mt t ht, within-take (l .file) mf f hf, within-drop (l .file) mf f hf)
+          rw (ne-eqb k kind.build n, ne-eqb k kind.testTable n′, eq-eqb k kind.write e, h, within-take (l .table) mt t ht, within-take (l .file) mf f hf, within-drop (l .file) mf f hf)
 
-      pub open-step : (k ≡ 19 → ⊥) → (mf : ℕ) → mf ≡ min (l .file) (length f) → (m : ℕ) (t′ : List ℕ) →
+      pub open-step : (k ≡ kind.write → ⊥) → (mf : ℕ) → mf ≡ min (l .file) (length f) → (m : ℕ) (t′ : List ℕ) →
           m ≡ openedLength (openOf s (take mf f)) (handed s (take mf f)) (l .table) → t′ ≡ openedTable (openOf s (take mf f)) (handed s (take mf f)) t →
           TablesAfter s (buffersOf l t w f x) k (buffersOf (record { table = m; work = l .work; file = l .file; text = l .text }) t′ w f x)
       unfolding TablesAfter
       open-step n″ mf hf m t′ e h =
-          rw (ne-eqb k 17 n, ne-eqb k 18 n′, ne-eqb k 19 n″, e, h, within-take (l .file) mf f hf)
+          rw (ne-eqb k kind.build n, ne-eqb k kind.testTable n′, ne-eqb k kind.write n″, e, h, within-take (l .file) mf f hf)
 
 -- ALL THAT IS HELD, BY THE GROUPS OF THE KINDS
 
 module _ (k : ℕ) (vs : Values) (line : List ℕ) (d : Desk) (t w f x : List ℕ) where
-  pub reset-step : k ≡ 0 → (r : Desk) → r ≡ noDesk → CommandAfter k vs line (heldOf d t w f x) (heldOf r t w f x)
+  pub reset-step : k ≡ kind.reset → (r : Desk) → r ≡ noDesk → CommandAfter k vs line (heldOf d t w f x) (heldOf r t w f x)
   unfolding CommandAfter
-  reset-step e r h = rw (eq-eqb k 0 e, h)
+  reset-step e r h = rw (eq-eqb k kind.reset e, h)
 
-  module _ (n : k ≡ 0 → ⊥) where
-    pub buffer-step : k ≤ 6 → (r : Lengths) (t′ w′ f′ x′ : List ℕ) → buffersOf r t′ w′ f′ x′ ≡ buffersAfter k vs line (buffersOf (d .lengths) t w f x) →
+  module _ (n : k ≡ kind.reset → ⊥) where
+    pub buffer-step : k ≤ kind.text → (r : Lengths) (t′ w′ f′ x′ : List ℕ) → buffersOf r t′ w′ f′ x′ ≡ buffersAfter k vs line (buffersOf (d .lengths) t w f x) →
         CommandAfter k vs line (heldOf d t w f x) (heldOf (record { set = d .set; run = d .run; lengths = r }) t′ w′ f′ x′)
     unfolding CommandAfter
-    buffer-step e r t′ w′ f′ x′ h = rw (ne-eqb k 0 n, le-leb k 6 e) (ap (λ b. record { set = d .set; run = d .run; buffers = b }) h)
+    buffer-step e r t′ w′ f′ x′ h = rw (ne-eqb k kind.reset n, le-leb k kind.text e) (ap (λ b. record { set = d .set; run = d .run; buffers = b }) h)
 
-    module _ (a : 6 < k) where
-      pub set-step : k ≤ 16 → (r : Set) (x′ : List ℕ) → r ≡ setAfter k vs line (take (d .lengths .text) x) (d .set) → x′ ≡ textAfter k (d .set) (d .lengths .text) x →
+    module _ (a : kind.text < k) where
+      pub set-step : k ≤ kind.testSet → (r : Set) (x′ : List ℕ) → r ≡ setAfter k vs line (take (d .lengths .text) x) (d .set) → x′ ≡ textAfter k (d .set) (d .lengths .text) x →
           CommandAfter k vs line (heldOf d t w f x) (heldOf (record { set = r; run = d .run; lengths = d .lengths }) t w f x′)
       unfolding CommandAfter
-      set-step e r x′ h h′ = rw (ne-eqb k 0 n, lt-leb k 6 a, le-leb k 16 e, h, h′)
+      set-step e r x′ h h′ = rw (ne-eqb k kind.reset n, lt-leb k kind.text a, le-leb k kind.testSet e, h, h′)
 
-      module _ (a′ : 16 < k) where
-        pub tables-step : k ≤ 20 → (r : Lengths) (t′ w′ f′ : List ℕ) → TablesAfter (d .set) (buffersOf (d .lengths) t w f x) k (buffersOf r t′ w′ f′ x) →
+      module _ (a′ : kind.testSet < k) where
+        pub tables-step : k ≤ kind.openFile → (r : Lengths) (t′ w′ f′ : List ℕ) → TablesAfter (d .set) (buffersOf (d .lengths) t w f x) k (buffersOf r t′ w′ f′ x) →
             CommandAfter k vs line (heldOf d t w f x) (heldOf (record { set = d .set; run = d .run; lengths = r }) t′ w′ f′ x)
         unfolding CommandAfter
-        tables-step e r t′ w′ f′ h = rw (ne-eqb k 0 n, lt-leb k 6 a, lt-leb k 16 a′, le-leb k 20 e) (record { set = refl; run = refl; buffers = h })
+        tables-step e r t′ w′ f′ h = rw (ne-eqb k kind.reset n, lt-leb k kind.text a, lt-leb k kind.testSet a′, le-leb k kind.openFile e) (record { set = refl; run = refl; buffers = h })
 
-        pub run-step : 20 < k → (r : Run) → r ≡ runAfter k vs (d .set) (take (d .lengths .table) t) (d .run) →
+        pub run-step : kind.openFile < k → (r : Run) → r ≡ runAfter k vs (d .set) (take (d .lengths .table) t) (d .run) →
             CommandAfter k vs line (heldOf d t w f x) (heldOf (record { set = d .set; run = r; lengths = d .lengths }) t w f x)
         unfolding CommandAfter
-        run-step e r h = rw (ne-eqb k 0 n, lt-leb k 6 a, lt-leb k 16 a′, lt-leb k 20 e, h)
+        run-step e r h = rw (ne-eqb k kind.reset n, lt-leb k kind.text a, lt-leb k kind.testSet a′, lt-leb k kind.openFile e, h)

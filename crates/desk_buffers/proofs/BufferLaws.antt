@@ -2,10 +2,12 @@
 use mathlib.Core.List.{List}
 use mathlib.Core.Path.{_≡_}
 use Prim.Native.Nat.{ℕ, _+_, _-_, _%_, _^_}
+use native.Mathlib.Omega.{arith}
 use borrow.Author.Tests.{eq-eqb, ne-eqb}
 use lib.ListN.{set, drop}
 use Rattle.commands.specs.declared.buffers.Lengths.{Lengths}
 use Rattle.commands.specs.declared.forms.Values.{Values}
+use Rattle.commands.specs.Kinds as kind
 use Rattle.desk_buffers.specs.Bytes.{filled, putAt, said}
 use Rattle.desk_buffers.specs.Buffers.{lengthAfter, bytesAfter, buffersOf, buffersAfter}
 
@@ -15,52 +17,52 @@ module _ (k : ℕ) (vs : Values) (n : ℕ) (b : List ℕ) where
   abbrev Leaves : ℕ → List ℕ → Type 0
   Leaves m b′ = (m ≡ lengthAfter k vs n) × (b′ ≡ bytesAfter k vs n b)
 
-  pub fill-leaves : k ≡ 1 → (v : ℕ) (b′ : List ℕ) → v ≡ vs .third % 256 → b′ ≡ filled (vs .second - 0) 0 v b → Leaves (vs .second) b′
+  pub fill-leaves : k ≡ kind.fill → (v : ℕ) (b′ : List ℕ) → v ≡ vs .third % 256 → b′ ≡ filled (vs .second - 0) 0 v b → Leaves (vs .second) b′
   unfolding lengthAfter bytesAfter
-  fill-leaves e v b′ p q = (rw (eq-eqb k 1 e), rw (eq-eqb k 1 e, q, p))
+  fill-leaves e v b′ p q = let z : vs .second - 0 ≡ vs .second = omega arith in (rw (eq-eqb k kind.fill e), rw (eq-eqb k kind.fill e, q, p, z))
 
-  module _ (n₁ : k ≡ 1 → ⊥) where
-    pub cut-leaves : k ≡ 2 → (b′ : List ℕ) → b′ ≡ filled (vs .second - n) n 0 b → Leaves (vs .second) b′
+  module _ (n₁ : k ≡ kind.fill → ⊥) where
+    pub cut-leaves : k ≡ kind.cut → (b′ : List ℕ) → b′ ≡ filled (vs .second - n) n 0 b → Leaves (vs .second) b′
     unfolding lengthAfter bytesAfter
-    cut-leaves e b′ q = (rw (ne-eqb k 1 n₁, eq-eqb k 2 e), rw (ne-eqb k 1 n₁, eq-eqb k 2 e) q)
+    cut-leaves e b′ q = (rw (ne-eqb k kind.fill n₁, eq-eqb k kind.cut e), rw (ne-eqb k kind.fill n₁, eq-eqb k kind.cut e) q)
 
-    module _ (n₂ : k ≡ 2 → ⊥) where
-      pub poke-leaves : k ≡ 3 → (v : ℕ) (b′ : List ℕ) → v ≡ vs .third % 256 → b′ ≡ set b (vs .second) v → Leaves n b′
+    module _ (n₂ : k ≡ kind.cut → ⊥) where
+      pub poke-leaves : k ≡ kind.poke → (v : ℕ) (b′ : List ℕ) → v ≡ vs .third % 256 → b′ ≡ set b (vs .second) v → Leaves n b′
       unfolding lengthAfter bytesAfter
-      poke-leaves e v b′ p q = (rw (ne-eqb k 1 n₁, ne-eqb k 2 n₂), rw (ne-eqb k 1 n₁, ne-eqb k 2 n₂, eq-eqb k 3 e, q, p))
+      poke-leaves e v b′ p q = (rw (ne-eqb k kind.fill n₁, ne-eqb k kind.cut n₂), rw (ne-eqb k kind.fill n₁, ne-eqb k kind.cut n₂, eq-eqb k kind.poke e, q, p))
 
       -- `show` and `sum`
-      pub all-left : (k ≡ 3 → ⊥) → Leaves n b
+      pub all-left : (k ≡ kind.poke → ⊥) → Leaves n b
       unfolding lengthAfter bytesAfter
-      all-left n₃ = (rw (ne-eqb k 1 n₁, ne-eqb k 2 n₂), rw (ne-eqb k 1 n₁, ne-eqb k 2 n₂, ne-eqb k 3 n₃))
+      all-left n₃ = (rw (ne-eqb k kind.fill n₁, ne-eqb k kind.cut n₂), rw (ne-eqb k kind.fill n₁, ne-eqb k kind.cut n₂, ne-eqb k kind.poke n₃))
 
 -- THE FOUR
 
 module _ (k : ℕ) (vs : Values) (line : List ℕ) (l : Lengths) (t w f x : List ℕ) where
-  pub text-added : k ≡ 6 → (n : ℕ) (x′ : List ℕ) → n ≡ (l .text + vs .first) % 2 ^ 32 → x′ ≡ putAt (l .text) (said (drop 5 line) (vs .first) 0) x →
+  pub text-added : k ≡ kind.text → (n : ℕ) (x′ : List ℕ) → n ≡ (l .text + vs .first) % 2 ^ 32 → x′ ≡ putAt (l .text) (said (drop 5 line) (vs .first) 0) x →
       buffersOf (record { table = l .table; work = l .work; file = l .file; text = n }) t w f x′ ≡ buffersAfter k vs line (buffersOf l t w f x)
   unfolding buffersAfter
-  text-added e n x′ p q = rw (eq-eqb k 6 e, p, q)
+  text-added e n x′ p q = rw (eq-eqb k kind.text e, p, q)
 
-  module _ (n₆ : k ≡ 6 → ⊥) where
+  module _ (n₆ : k ≡ kind.text → ⊥) where
     pub on-table : vs .first ≡ 0 → (n : ℕ) (t′ : List ℕ) → n ≡ lengthAfter k vs (l .table) → t′ ≡ bytesAfter k vs (l .table) t →
         buffersOf (record { table = n; work = l .work; file = l .file; text = l .text }) t′ w f x ≡ buffersAfter k vs line (buffersOf l t w f x)
     unfolding buffersAfter
-    on-table e n t′ p q = rw (ne-eqb k 6 n₆, eq-eqb (vs .first) 0 e, p, q)
+    on-table e n t′ p q = rw (ne-eqb k kind.text n₆, eq-eqb (vs .first) 0 e, p, q)
 
     module _ (n₀ : vs .first ≡ 0 → ⊥) where
       pub on-work : vs .first ≡ 1 → (n : ℕ) (w′ : List ℕ) → n ≡ lengthAfter k vs (l .work) → w′ ≡ bytesAfter k vs (l .work) w →
           buffersOf (record { table = l .table; work = n; file = l .file; text = l .text }) t w′ f x ≡ buffersAfter k vs line (buffersOf l t w f x)
       unfolding buffersAfter
-      on-work e n w′ p q = rw (ne-eqb k 6 n₆, ne-eqb (vs .first) 0 n₀, eq-eqb (vs .first) 1 e, p, q)
+      on-work e n w′ p q = rw (ne-eqb k kind.text n₆, ne-eqb (vs .first) 0 n₀, eq-eqb (vs .first) 1 e, p, q)
 
       module _ (n₁ : vs .first ≡ 1 → ⊥) where
         pub on-file : vs .first ≡ 2 → (n : ℕ) (f′ : List ℕ) → n ≡ lengthAfter k vs (l .file) → f′ ≡ bytesAfter k vs (l .file) f →
             buffersOf (record { table = l .table; work = l .work; file = n; text = l .text }) t w f′ x ≡ buffersAfter k vs line (buffersOf l t w f x)
         unfolding buffersAfter
-        on-file e n f′ p q = rw (ne-eqb k 6 n₆, ne-eqb (vs .first) 0 n₀, ne-eqb (vs .first) 1 n₁, eq-eqb (vs .first) 2 e, p, q)
+        on-file e n f′ p q = rw (ne-eqb k kind.text n₆, ne-eqb (vs .first) 0 n₀, ne-eqb (vs .first) 1 n₁, eq-eqb (vs .first) 2 e, p, q)
 
         pub on-text : (vs .first ≡ 2 → ⊥) → (n : ℕ) (x′ : List ℕ) → n ≡ lengthAfter k vs (l .text) → x′ ≡ bytesAfter k vs (l .text) x →
             buffersOf (record { table = l .table; work = l .work; file = l .file; text = n }) t w f x′ ≡ buffersAfter k vs line (buffersOf l t w f x)
         unfolding buffersAfter
-        on-text n₂ n x′ p q = rw (ne-eqb k 6 n₆, ne-eqb (vs .first) 0 n₀, ne-eqb (vs .first) 1 n₁, ne-eqb (vs .first) 2 n₂, p, q)
+        on-text n₂ n x′ p q = rw (ne-eqb k kind.text n₆, ne-eqb (vs .first) 0 n₀, ne-eqb (vs .first) 1 n₁, ne-eqb (vs .first) 2 n₂, p, q)

@@ -16,7 +16,7 @@ lengthAfter k vs n = cond (eqb k kind.fill || eqb k kind.cut) (vs .second) n
 -- `fill` makes every byte the same; `cut` makes those zero that the present length does not have; `poke` sets one
 unfoldable pub bytesAfter : ℕ → Values → ℕ → List ℕ → List ℕ
 bytesAfter k vs n l =
-    cond (eqb k kind.fill) (filled (vs .second - 0) 0 (vs .third % 256) l)
+    cond (eqb k kind.fill) (filled (vs .second) 0 (vs .third % 256) l)
     (cond (eqb k kind.cut) (filled (vs .second - n) n 0 l)
     (cond (eqb k kind.poke) (set l (vs .second) (vs .third % 256)) l))
 

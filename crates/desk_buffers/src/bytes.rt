@@ -28,10 +28,10 @@ pub fn within(n: u32, buf: &[u8]) -> usize
 pub fn size(part: &[u8]) -> u32
     ensures { λ r. ⌜ r ≡ min (length (now (part .entry))) 4294967295 ⌝ }
 {
-    if part.len() < 4294967295 {
+    if part.len() < u32::MAX as usize {
         return part.len() as u32;
     }
-    4294967295
+    u32::MAX
 }
 
 // The word behind a line's first five bytes, as many as `text ` and `name ` have.
@@ -45,7 +45,7 @@ pub fn behind<'a>(line: &'a [u8]) -> &'a [u8]
 }
 
 // So many bytes from a place on; none where the buffer has fewer, which no line that is taken asks for.
-pub fn part<'a>(buf: &'a [u8], from: u32, count: u32) -> &'a [u8]
+pub(crate) fn part<'a>(buf: &'a [u8], from: u32, count: u32) -> &'a [u8]
     ensures { λ r. ⌜ now r ≡ partOf from count (now (buf .entry)) ⌝ }
 {
     let start = from as usize;
@@ -66,7 +66,7 @@ pub fn poke(buf: &mut [u8], at: usize, v: u8)
 }
 
 // The bytes from one place on and before another become v.
-pub fn fill(buf: &mut [u8], from: usize, end: usize, v: u8)
+pub(crate) fn fill(buf: &mut [u8], from: usize, end: usize, v: u8)
     ensures { λ _. ⌜ now (buf .exit) ≡ filled (end - from) from v (now (buf .entry)) ⌝ }
 {
     let mut i = from;
@@ -88,7 +88,7 @@ pub fn copy(part: &[u8], buf: &mut [u8])
 }
 
 // The first bytes that a word says go to a buffer from a place on.
-pub fn add(word: &[u8], count: u32, buf: &mut [u8], at: u32)
+pub(crate) fn add(word: &[u8], count: u32, buf: &mut [u8], at: u32)
     ensures { λ _. ⌜ now (buf .exit) ≡ putAt at (said (now (word .entry)) count 0) (now (buf .entry)) ⌝ }
 {
     let mut i: u32 = 0;
@@ -102,19 +102,23 @@ pub fn add(word: &[u8], count: u32, buf: &mut [u8], at: u32)
     }
 }
 
-// One step of the Adler-32 sum.
+// What both halves of the Adler-32 sum stay below.
+const MODULUS: u32 = 65521;
+
+// One step of its first half, by a byte.
 fn step(a: u32, x: u8) -> u32
     requires { ⌜ a < 65521 ⌝ }
     ensures { λ r. ⌜ (r ≡ (a + x) % 65521) × (r < 65521) ⌝ }
 {
-    (a + x as u32) % 65521
+    (a + x as u32) % MODULUS
 }
 
+// One step of its second half, by the first.
 fn second_step(b: u32, a: u32) -> u32
     requires { ⌜ (b < 65521) × (a < 65521) ⌝ }
     ensures { λ r. ⌜ (r ≡ (b + a) % 65521) × (r < 65521) ⌝ }
 {
-    (b + a) % 65521
+    (b + a) % MODULUS
 }
 
 // The Adler-32 sum.

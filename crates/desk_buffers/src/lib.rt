@@ -2,6 +2,7 @@
 pub mod bytes;
 pub mod say;
 
+use commands::buffers;
 use commands::buffers::Lengths;
 use commands::kinds;
 use commands::lines::Command;
@@ -82,15 +83,15 @@ pub fn carry_out(
         after.text = add_text(vs.first, line, l.text, text);
         return after;
     }
-    if buffer == 0 {
+    if buffer == buffers::TABLE {
         after.table = on_buffer(c, l.table, table);
         return after;
     }
-    if buffer == 1 {
+    if buffer == buffers::WORK {
         after.work = on_buffer(c, l.work, work);
         return after;
     }
-    if buffer == 2 {
+    if buffer == buffers::FILE {
         after.file = on_buffer(c, l.file, file);
         return after;
     }

@@ -13,9 +13,9 @@ use Rattle.commands.proofs.Taken.{taken-within}
 use Rattle.desk.specs.After.{either, Held, noLengths}
 use Rattle.desk.specs.Fitted.{Fitted}
 use Rattle.desk.proofs.Fitted.{command-fitted}
-use Rattle.replay.specs.Log.{LineAfter, Logged, Ended, lineWith, ByteAfter, Reads, noByte, oneMore}
+use Rattle.replay.specs.Log.{LineAfter, Logged, noLog, loggedOf, Ended, lineWith, ByteAfter, Reads, noByte, oneMore}
 
-pub none-fitted : Fitted noLengths
+none-fitted : Fitted noLengths
 none-fitted = record { table = omega arith; work = omega arith; file = omega arith; text = omega arith }
 
 pub line-fitted : (line : List ℕ) (h h′ : Held) → LineAfter (parseOf (h .buffers .lengths) line) line h h′ → Fitted (h .buffers .lengths) → Fitted (h′ .buffers .lengths)
@@ -40,3 +40,7 @@ byte-fitted b g g′ a f = step (eqb b 10) a
 pub reads-fitted : (p : List ℕ) (i : ℕ) (g g′ : Logged) → Reads p i g g′ → Fitted (g .held .buffers .lengths) → Fitted (g′ .held .buffers .lengths)
 reads-fitted p i g g′ noByte f = f
 reads-fitted p i g g′ (oneMore {i = j} {g₁ = g₁} r b) f = byte-fitted _ g₁ g′ b (reads-fitted p j g g₁ r f)
+
+-- from the beginning of a log on
+pub log-fitted : (p : List ℕ) (i : ℕ) (line t w f x : List ℕ) (g : Logged) → Reads p i (loggedOf noLog line t w f x) g → Fitted (g .held .buffers .lengths)
+log-fitted p i line t w f x g r = reads-fitted p i (loggedOf noLog line t w f x) g r none-fitted

@@ -1,5 +1,5 @@
 -- What a line, and a piece of the log, leaves of all that is held.
-use mathlib.Core.Bool.{cond}
+use mathlib.Core.Bool.{false, cond}
 use mathlib.Core.List.{List}
 use mathlib.Core.Path.{_≡_}
 use Prim.Native.Nat.{ℕ, _+_, _%_, _^_}
@@ -8,7 +8,7 @@ use lib.ListN.{getD, take, set}
 use Rattle.commands.specs.declared.lines.Parsed.{Parsed}
 use Rattle.commands.specs.declared.lines.Parsed.the-variants.{Mangled, Taken}
 use Rattle.commands.specs.Lines.{parseOf}
-use Rattle.desk.specs.After.{either, Held, heldOf, CommandAfter}
+use Rattle.desk.specs.After.{either, Held, heldOf, noDesk, CommandAfter}
 use Rattle.replay.specs.declared.Log.{Log}
 
 -- a mangled line changes nothing
@@ -27,6 +27,10 @@ pub record Logged : Type 0 where
 
 abbrev pub loggedOf : Log → List ℕ → List ℕ → List ℕ → List ℕ → List ℕ → Logged
 loggedOf g line t w f x = record { held = heldOf (g .desk) t w f x; line = line; used = g .used; lines = g .lines }
+
+-- at the beginning nothing is held, and no byte is read
+abbrev pub noLog : Log
+noLog = record { desk = noDesk; used = 0; lines = 0; ended = false }
 
 -- an LF ends the line
 pub record Ended (g g′ : Logged) : Type 0 where

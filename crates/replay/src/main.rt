@@ -6,10 +6,11 @@ use desk::Desk;
 use desk_buffers::bytes;
 use desk_buffers::say;
 use libc::STDIN_FILENO;
+ghost use mathlib.Core.Path.{_≡_};
 ghost use lib.ListN.{length};
 ghost use Rattle.commands.specs.Lines.{parseOf};
 ghost use Rattle.desk.specs.After.{heldOf};
-ghost use Rattle.replay.specs.Log.{LineAfter, loggedOf, Ended, ByteAfter, Reads};
+ghost use Rattle.replay.specs.Log.{LineAfter, noLog, loggedOf, Ended, ByteAfter, Reads};
 
 // Of a line that is too long, one byte more than a line may have is kept.
 const KEPT: u32 = lines::LONGEST as u32 + 1;
@@ -22,7 +23,10 @@ struct Log {
     ended: bool,
 }
 
-fn begun() -> Log {
+// Nothing is held yet, and no byte is read.
+fn begun() -> Log
+    ensures { λ r. ⌜ r ≡ noLog ⌝ }
+{
     let desk = desk::fresh();
     Log {
         desk: desk,
@@ -122,7 +126,7 @@ fn take_piece(
     next
 }
 
-// One piece of standard input: none is left at its end.
+// One piece of standard input: an empty piece ends the log.
 fn take_some(
     g: Log,
     line: &mut [u8],

@@ -1,5 +1,6 @@
 -- 0 to 9, a to f, and 16.
-use Prim.Native.Nat.{_<_}
+use mathlib.Core.Path.{_≡_}
+use Prim.Native.Nat.{_+_, _-_, _<_}
 use borrow.Author.Tests.{le-leb, lt-leb}
 use native.Mathlib.Omega.{arith}
 use Rattle.commands.specs.Words.{digit, hexDigit}
@@ -21,7 +22,7 @@ returns-3 c = (simp (le-leb _ _ (c .before .before .if1 .left), lt-leb _ _ (c .b
 
 returns-4 : tie.Need-returns-4
 unfolding hexDigit digit
-returns-4 c = (simp (le-leb _ _ (c .before .before .before .if1 .left), lt-leb _ _ (c .before .before .if2 .left), le-leb _ _ (c .before .if3 .left), le-leb _ _ (c .if4 .taken)), omega arith)
+returns-4 c = (let b = c .before .before .before .before .args .b in let e : b - 97 + 10 ≡ b - 87 = omega arith in simp (e, le-leb _ _ (c .before .before .before .if1 .left), lt-leb _ _ (c .before .before .if2 .left), le-leb _ _ (c .before .if3 .left), le-leb _ _ (c .if4 .taken)), omega arith)
 
 returns-5 : tie.Need-returns-5
 unfolding hexDigit digit
