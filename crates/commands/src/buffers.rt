@@ -13,7 +13,7 @@ pub struct Lengths {
     pub text: u32,
 }
 
-// Their numbers.
+// The buffers' numbers.
 pub const TABLE: u32 = 0;
 
 pub const WORK: u32 = 1;

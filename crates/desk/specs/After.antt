@@ -61,7 +61,7 @@ module _ (s : Set) (b : Buffers) where
   pub record Built′ (b′ : Buffers) : Type 0 where
     pub table′ : List ℕ
     pub work′ : List ℕ
-    pub building : Building s (take (l .table) (b .table)) (take (l .work) (b .work)) table′ work′
+    pub building : Building s table (take (l .work) (b .work)) table′ work′
     pub after : b′ ≡ buffersOf (b .lengths) (table′ ++ drop (l .table) (b .table)) (work′ ++ drop (l .work) (b .work)) (b .file) (b .text)
 
   abbrev pub written : Buffers

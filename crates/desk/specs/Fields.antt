@@ -1,13 +1,13 @@
 -- What a command that sets a field makes of the set and of the run.
-use mathlib.Core.Bool.{Bool, _&&_, cond}
+use mathlib.Core.Bool.{Bool, cond}
 use mathlib.Core.List.{List}
 use Prim.Native.Nat.{ℕ, _-_, _%_}
-use lib.Dec.{eqb, leb}
+use lib.Dec.{eqb}
 use lib.ListN.{getD, set, drop}
 use Rattle.commands.specs.Kinds as kind
 use Rattle.tasks.specs.declared.sets.Task.{Task}
 use Rattle.tasks.specs.declared.sets.Set.{Set}
-use Rattle.tasks.specs.Sets.{noTask}
+use Rattle.tasks.specs.Sets.{within, noTask}
 use Rattle.game.specs.declared.states.Job.the-variants.{Empty, InHand}
 use Rattle.game.specs.declared.states.TaskState.{TaskState}
 use Rattle.game.specs.States.{noState}
@@ -20,7 +20,7 @@ use Rattle.desk_buffers.specs.Bytes.{putAt, said}
 
 -- tasks are numbered 1 to 7
 abbrev pub isTask : ℕ → Bool
-isTask i = leb 1 i && leb i 7
+isTask i = within 1 7 i
 
 -- THE SET
 
