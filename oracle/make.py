@@ -87,7 +87,7 @@ class Maker(Tables, Sheets, Runs):
                 self.act_own_table, self.act_short,
                 self.act_sheet_back, self.act_sheets, self.act_sheets,
                 self.act_sheets_in_order, self.act_one_rule,
-                self.act_sheet_long,
+                self.act_sheet_long, self.act_reader, self.act_print,
                 self.act_records, self.act_bad_set, self.act_too_many_states,
                 self.act_file, self.act_file_damage, self.act_file_damage,
                 self.act_file_length, self.act_file_of_another,

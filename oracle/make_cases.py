@@ -14,11 +14,15 @@ def sheet(*lines):
     return read("".join(line + "\n" for line in lines).encode("ascii"))
 
 
-def read(text):
+def enter(text):
     commands = ["cut text 0"]
     for first in range(0, len(text), 125):
         commands.append("text " + text[first:first + 125].hex())
-    return commands + ["read"]
+    return commands
+
+
+def read(text):
+    return enter(text) + ["read"]
 
 
 def tasks(*lines):
@@ -197,6 +201,42 @@ def sheet_texts():
         yield PAIR + ["fill text %d 5" % length, "sheet", "sum text"]
 
 
+def readers():
+    """A reader at a place of its text, and its place after reading."""
+    good = b"set A\nhard 1 1 1\n"
+    for before in (b"", b"x", b"\n\n", b"set B\n"):
+        for text in (good, good[:-1], good + b"x", good[:4], b"", b"set A\nhard 2 3 3\n",
+                     b"set A\nhard 2 2,1 2\n"):
+            at = len(before)
+            yield (enter(before + text)
+                   + ["past %d" % at, "next %d" % at, "show set", "past 0", "next 0"])
+    yield enter(good) + [command % at for at in (1, 16, 17, 18, 65535)
+                         for command in ("past %d", "next %d")]
+    # 1,025 bytes and 1,024 are left.
+    for at in (0, 1, 175, 176, 1199, 1200):
+        yield ["fill text 1200 115", "past %d" % at, "next %d" % at]
+
+
+def reports():
+    """The report on a sheet, with what it leaves of the buffers."""
+    left = ["sum text", "sum table", "sum work", "sum file", "show set"]
+    pair = b"set PAIR\nhard 2 1 2\nhard 2 1 2\n"
+    for text, table, work, output in (
+            (pair, 16, 16, 390), (pair, 20, 17, 400), (pair, 16, 16, 389),
+            (pair, 0, 0, 0), (pair, 15, 16, 390), (pair, 16, 15, 390),
+            (b"", 16, 16, 390), (b"", 16, 16, 389), (pair[:-1], 16, 16, 390),
+            (b"set A\nhard 2 1,2 2\nhard 2 1 2\n", 30, 30, 390),
+            (b"set SWEEP\nhard 2 1 2\nhard 3 1 4\nsoft 1 1 1\n", 64, 64, 390),
+            (b"set SIXTEEN-LETTERS-\nhard 2 1 3\nsoft 3 2 4\n", 72, 72, 390),
+            (b"set A\nhard 2 3 3\n", 9, 9, 390),
+            (b"set A\n" + b"soft 1 1 1\n" * 7, 128, 128, 500),
+            (b"set A\nhard 16 16 16\nhard 13 13 16\n", 9, 9, 390)):
+        yield (enter(text) + ["fill table %d 9" % table, "fill work %d 8" % work,
+                              "fill file %d 7" % output, "print"] + left)
+    yield ["fill text 1025 65", "fill table 9 9", "fill work 9 9",
+           "fill file 390 7", "print"] + left
+
+
 def table_files():
     yield PAIR_FILE + ["show file 0 54", "open"]
     yield (PAIR_FILE + [command for offset in range(38) for command in
@@ -309,8 +349,8 @@ def run_states():
 
 def all_cases():
     cases = []
-    for topic in (figures, sets, shield, sheet_texts, table_files, run_calls,
-                  run_states):
+    for topic in (figures, sets, shield, sheet_texts, readers, reports,
+                  table_files, run_calls, run_states):
         cases += topic()
     return cases
 

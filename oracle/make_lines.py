@@ -18,11 +18,11 @@ def mangled():
     yield from [long_line(256), long_line(257), "x" * 1000]  # 1
     yield from ["", " ", " ask 1", "ask 1 ", "ask  1", "  ask 1"]  # 2
     yield from ["Ask 1", "askk 1", "asks", "\task 1", "ask\t1", "\xff", "\0", "read\r", "rea", "?"]  # 3
-    yield from ["ask", "ask 1 2", "read 1", "show", "show set 1", "job 1", "report 1 1", "reset reset"]  # 4
+    yield from ["ask", "ask 1 2", "read 1", "next", "past 1 2", "print 1", "show", "show set 1", "job 1", "report 1 1", "reset reset"]  # 4
     yield from ["ask x", "ask 1x", "ask -1", "ask +1", "ask 01", "ask 00", "ask 1.0", "fill tabel 1 1",
                 "show sets", "text 0", "text 012", "text 0G", "text 0A", "text ag", "job 1 None",
-                "awaited nothing", "ask 1\0", "ask \xb2"]  # 5
-    yield from ["age 0 1", "age 8 1", "report 1 2 0", "ask 256", "ask 1000", "runs 1 65536", "gaps 7 65536",
+                "awaited nothing", "next none", "past 01", "ask 1\0", "ask \xb2"]  # 5
+    yield from ["age 0 1", "age 8 1", "report 1 2 0", "ask 256", "ask 1000", "runs 1 65536", "gaps 7 65536", "next 65536", "past 65536",
                 "start 4294967296", "ticks 18446744073709551616", "ask 100000000000000000000000000000",
                 "name " + "41" * 15, "name " + "41" * 17, "text " + "41" * 126]  # 6
     for name, most in MOST.items():

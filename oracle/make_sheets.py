@@ -111,6 +111,46 @@ class Sheets(Base):
             if self.chance(30):
                 self.say("show", "set")
 
+    def act_reader(self):
+        """A reader at a place of a text: bytes, a sheet, perhaps bent."""
+        for _ in range(3):
+            text = sheets.sheet_text(self.set)
+            if self.chance(40):
+                text = self.pick([self.bent_sheet, self.bent_bytes])(text)
+            before = bytes(self.pick(SHEET_BYTES) for _ in range(self.below(6)))
+            self.enter_text((before + text)[:1200])
+            for at in (len(before), self.pick([0, len(before) + self.below(8)])):
+                self.say("past", at)
+                self.say("next", at)
+            self.say("show", "set")
+        length = self.pick([1024, 1025, 1100, 1200])
+        self.say("cut", "text", length)
+        for at in self.shuffled([0, 1, length - 1025, length - 1024,
+                                 length - 1, length, length + 1, 65535])[:4]:
+            if at >= 0:
+                self.say("past", at)
+                self.say("next", at)
+
+    def act_print(self):
+        """The report on a sheet, perhaps bent, with buffers about their
+        lengths."""
+        states = self.states()
+        for _ in range(2):
+            text = sheets.sheet_text(self.set)
+            if self.chance(30):
+                text = self.bent_sheet(text)
+            self.enter_text(text[:1200])
+            for name in ("table", "work"):
+                length = self.pick([states, states, states + self.below(9),
+                                    states - self.below(2)])
+                self.say("fill", name, length, self.below(256))
+            self.say("fill", "file", self.pick([389, 390, 390, 391, 600]),
+                     self.below(256))
+            self.say("print")
+            for name in ("text", "table", "work", "file"):
+                self.say("sum", name)
+        self.say("show", "set")
+
     def act_sheets_in_order(self):
         """Right form, with faults 3, 4, 5 in several tasks, or 6."""
         for _ in range(4):

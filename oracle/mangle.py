@@ -16,7 +16,7 @@ WORDS = [b"", b"none", b"set", b"run", b"table", b"work", b"file", b"text",
          b"1200", b"1201", b"65535", b"65536", b"65537", b"70000", b"70001",
          b"4294967295", b"4294967296", b"18446744073709551616",
          b"18446744073709551617", b"9" * 40]
-SLOW = (b"build", b"test table", b"write", b"open")
+SLOW = (b"build", b"test table", b"write", b"open", b"print")
 LONGEST = 200
 
 

@@ -4,6 +4,7 @@ import sys
 import zlib
 
 import files
+import report
 import runs
 import sets
 import sheets
@@ -145,6 +146,16 @@ class Replay:
         self.set = sheets.read_sheet(self.buffers["text"])
         return "ok"
 
+    def do_next(self, word):
+        at = number(word, 0, HALF)
+        self.set = sets.ZERO_SET
+        self.set = sheets.read_sheet(self.buffers["text"][at:])
+        return "ok"
+
+    def do_past(self, word):
+        at = number(word, 0, HALF)
+        return "place %d" % sheets.place_after(self.buffers["text"], at)
+
     def do_sheet(self):
         length = sheets.write_sheet(self.set, self.buffers["text"])
         return "sheet %d %s" % (length, self.buffers["text"][:length].hex())
@@ -203,6 +214,12 @@ class Replay:
         part = files.open_file(self.set, self.buffers["file"])
         self.buffers["table"] = bytearray(part)
         return "part %d %d" % (len(part), zlib.adler32(part))
+
+    def do_print(self):
+        output = self.buffers["file"]
+        length = report.report(self.buffers["text"], self.buffers["table"],
+                               self.buffers["work"], output)
+        return "report %d %s" % (length, output[:length].hex())
 
     # -- run --
 
@@ -285,6 +302,8 @@ class Replay:
         "sum": (1, 1, do_sum),
         "text": (1, 1, do_text),
         "read": (0, 0, do_read),
+        "next": (1, 1, do_next),
+        "past": (1, 1, do_past),
         "sheet": (0, 0, do_sheet),
         "name": (1, 1, do_name),
         "count": (1, 1, do_count),
@@ -296,6 +315,7 @@ class Replay:
         "build": (0, 0, do_build),
         "write": (0, 0, do_write),
         "open": (0, 0, do_open),
+        "print": (0, 0, do_print),
         "start": (1, 1, do_start),
         "ask": (1, 1, do_ask),
         "report": (3, 3, do_report),

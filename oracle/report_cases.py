@@ -5,25 +5,15 @@
 
 import sys
 
-import shield
 from refusal import Refused
-from report import report_text
-from sheets import read_sheet
-
-ROOM = 42 + 36 + 8 * 39  # a set line, a shield line and eight rows, each at its longest
+from report import report
 
 
-def report(sheet, table, work, output):
-    """The answer; the report goes to the output, and its shield to the table."""
-    if len(output) < ROOM:
-        return f" refused 7 place {ROOM}"
+def answer_to(sheet, table, work, output):
     try:
-        shield.build(read_sheet(sheet), table, work)
-        text = report_text(sheet).encode()
+        return f" length {report(sheet, table, work, output)}"
     except Refused as f:
-        text = b"refused %d %d\n" % (f.number, f.place)
-    output[:len(text)] = text
-    return f" length {len(text)}"
+        return f" refused {f.number} place {f.place}"
 
 
 def changed(buffer):
@@ -33,7 +23,7 @@ def changed(buffer):
 def show(label, sheet, table, work, output):
     """Buffers are given as lengths."""
     table, work, output = (bytearray(b"." * n) for n in (table, work, output))
-    answer = report(sheet, table, work, output)
+    answer = answer_to(sheet, table, work, output)
     print(f"{label}:{answer} changed {changed(output)} {changed(table)} {changed(work)}")
     sys.stdout.write(output.rstrip(b".").decode())
 

@@ -32,7 +32,8 @@ def mangled_lines():
            b"start 4294967296", b"start " + b"9" * 100, b"ask 256",
            b"report 0 2 0", b"report 0 0 256", b"age 1 none", b"age 1 256",
            b"job 1 256", b"job 1 None", b"awaited 256", b"ticks none",
-           b"read x", b"\xff", b"sum text\t", b"reset" + b" " * 251,
+           b"read x", b"next", b"next 65536", b"past x", b"past 1 1",
+           b"print 0", b"\xff", b"sum text\t", b"reset" + b" " * 251,
            b"ask " + b"0" * 252]
     for line in bad:
         number = machine.line_number + 1
@@ -118,7 +119,7 @@ def refused_change(line, number, before, after):
     """What a refused command may leave behind."""
     set_before, run_before, buffers_before = before
     set_after, run_after, buffers_after = after
-    if line == b"read":
+    if line == b"read" or line.startswith(b"next "):
         set_before = sets.ZERO_SET
     if line.startswith(b"start "):
         run_before = runs.ZERO_RUN

@@ -100,13 +100,13 @@ def written(task_set, buffer):
 
 def read(text):
     """The answer, the reader's place, the set beside it, and what is written of a set that was taken."""
+    at = sheets.place_after(text, 0)
     try:
         task_set = sheets.read_sheet(text)
     except Refused as f:
-        at = {1: 0, 2: f.place}.get(f.number, len(text))
         return f"refused {f.number} place {f.place} at {at} set 0 0 0 0 0 0\n".encode()
     t = task_set.tasks[0]
-    taken = f"taken at {len(text)} set {task_set.name[0]} {task_set.count} {t.kind} {t.deadline} {t.runs} {t.gaps}\n"
+    taken = f"taken at {at} set {task_set.name[0]} {task_set.count} {t.kind} {t.deadline} {t.runs} {t.gaps}\n"
     return taken.encode() + written(task_set, bytearray(b"." * PAGE))
 
 

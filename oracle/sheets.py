@@ -174,6 +174,20 @@ def read_sheet(text):
     return task_set
 
 
+def place_after(text, at):
+    """The place of a reader of the text that stood at a place, after reading.
+
+    "A reader holds the text and its place": after a sheet it is the end of
+    the text; after a form fault it is the fault's place; nothing of a text
+    that is too long is read.
+    """
+    rest = bytes(text[at:])
+    if len(rest) > MOST_BYTES:
+        return at
+    fault = form_fault(rest)
+    return at + (len(rest) if fault is None else fault)
+
+
 # ---- the writer ----------------------------------------------------------
 
 def sheet_text(task_set):

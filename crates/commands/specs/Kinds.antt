@@ -25,86 +25,95 @@ text = 6
 abbrev pub read : ℕ
 read = 7
 
+abbrev pub next : ℕ
+next = 8
+
+abbrev pub past : ℕ
+past = 9
+
 abbrev pub sheet : ℕ
-sheet = 8
+sheet = 10
 
 abbrev pub name : ℕ
-name = 9
+name = 11
 
 abbrev pub count : ℕ
-count = 10
+count = 12
 
 abbrev pub kind : ℕ
-kind = 11
+kind = 13
 
 abbrev pub deadline : ℕ
-deadline = 12
+deadline = 14
 
 abbrev pub runs : ℕ
-runs = 13
+runs = 15
 
 abbrev pub gaps : ℕ
-gaps = 14
+gaps = 16
 
 abbrev pub showSet : ℕ
-showSet = 15
+showSet = 17
 
 abbrev pub testSet : ℕ
-testSet = 16
+testSet = 18
 
 abbrev pub build : ℕ
-build = 17
+build = 19
 
 abbrev pub testTable : ℕ
-testTable = 18
+testTable = 20
 
 abbrev pub write : ℕ
-write = 19
+write = 21
 
 abbrev pub openFile : ℕ
-openFile = 20
+openFile = 22
+
+abbrev pub print : ℕ
+print = 23
 
 abbrev pub start : ℕ
-start = 21
+start = 24
 
 abbrev pub ask : ℕ
-ask = 22
+ask = 25
 
 abbrev pub report : ℕ
-report = 23
+report = 26
 
 abbrev pub showRun : ℕ
-showRun = 24
+showRun = 27
 
 abbrev pub age : ℕ
-age = 25
+age = 28
 
 abbrev pub job : ℕ
-job = 26
+job = 29
 
 abbrev pub noJob : ℕ
-noJob = 27
+noJob = 30
 
 abbrev pub arrived : ℕ
-arrived = 28
+arrived = 31
 
 abbrev pub finished : ℕ
-finished = 29
+finished = 32
 
 abbrev pub replaced : ℕ
-replaced = 30
+replaced = 33
 
 abbrev pub ticks : ℕ
-ticks = 31
+ticks = 34
 
 abbrev pub substitutions : ℕ
-substitutions = 32
+substitutions = 35
 
 abbrev pub reading : ℕ
-reading = 33
+reading = 36
 
 abbrev pub awaited : ℕ
-awaited = 34
+awaited = 37
 
 abbrev pub nothingAwaited : ℕ
-nothingAwaited = 35
+nothingAwaited = 38

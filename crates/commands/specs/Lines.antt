@@ -17,7 +17,7 @@ use Rattle.commands.specs.Forms.{valueOf, kept, noValues}
 
 -- the commands, a row each: the command's word, then the forms of the words behind it
 unfoldable pub page : List ℕ
-page = bytes "reset\nfill U L B\ncut U L\npoke U O B\nshow U O C\nsum U\ntext T\nread\nsheet\nname N\ncount B\nkind I B\ndeadline I B\nruns I H\ngaps I H\nshow set\ntest set\nbuild\ntest table\nwrite\nopen\nstart W\nask B\nreport W F B\nshow run\nage I B\njob I B\njob I none\narrived I W\nfinished I W\nreplaced I W\nticks W\nsubstitutions W\nreading W\nawaited B\nawaited none"
+page = bytes "reset\nfill U L B\ncut U L\npoke U O B\nshow U O C\nsum U\ntext T\nread\nnext H\npast H\nsheet\nname N\ncount B\nkind I B\ndeadline I B\nruns I H\ngaps I H\nshow set\ntest set\nbuild\ntest table\nwrite\nopen\nprint\nstart W\nask B\nreport W F B\nshow run\nage I B\njob I B\njob I none\narrived I W\nfinished I W\nreplaced I W\nticks W\nsubstitutions W\nreading W\nawaited B\nawaited none"
 
 -- the words of a line, and the forms of a row: what stands between spaces
 abbrev pub words : List ℕ → List (List ℕ)

@@ -102,7 +102,7 @@ pub fn parse(line: &[u8], lengths: Lengths) -> Parsed
     first_row(
         line,
         // U a buffer, L a length, O an offset, C a count, I a task, F 0 or 1, B a byte, H 16 bits, W 32 bits, N a name, T a text.
-        b"reset\nfill U L B\ncut U L\npoke U O B\nshow U O C\nsum U\ntext T\nread\nsheet\nname N\ncount B\nkind I B\ndeadline I B\nruns I H\ngaps I H\nshow set\ntest set\nbuild\ntest table\nwrite\nopen\nstart W\nask B\nreport W F B\nshow run\nage I B\njob I B\njob I none\narrived I W\nfinished I W\nreplaced I W\nticks W\nsubstitutions W\nreading W\nawaited B\nawaited none",
+        b"reset\nfill U L B\ncut U L\npoke U O B\nshow U O C\nsum U\ntext T\nread\nnext H\npast H\nsheet\nname N\ncount B\nkind I B\ndeadline I B\nruns I H\ngaps I H\nshow set\ntest set\nbuild\ntest table\nwrite\nopen\nprint\nstart W\nask B\nreport W F B\nshow run\nage I B\njob I B\njob I none\narrived I W\nfinished I W\nreplaced I W\nticks W\nsubstitutions W\nreading W\nawaited B\nawaited none",
         0,
         0,
         lengths,

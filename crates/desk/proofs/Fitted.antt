@@ -21,7 +21,7 @@ use Rattle.table_file.specs.Files.{headerLength}
 use Rattle.table_file.specs.Open.{openOf, partOf, handed}
 use Rattle.table_file.proofs.Opening.{opening}
 use Rattle.desk_buffers.specs.Buffers.{Buffers, lengthAfter, buffersAfter}
-use Rattle.desk.specs.After.{either, openedLength, Built′, written, opened, TablesAfter, Held, heldOf, noDesk, setHeld, runHeld, bufferHeld, TablesHeld, CommandAfter}
+use Rattle.desk.specs.After.{either, openedLength, Built′, written, opened, printed, TablesAfter, Held, heldOf, noDesk, setHeld, runHeld, bufferHeld, TablesHeld, CommandAfter}
 use Rattle.desk.specs.Fitted.{Fitted}
 
 -- ONE BUFFER
@@ -91,13 +91,14 @@ opened-fits s file n h = step (openOf s file) refl
 
 tables-fitted : (s : Set) (b : Buffers) (k : ℕ) (b′ : Buffers) → TablesAfter s b k b′ → Fitted (b .lengths) → Fitted (b′ .lengths)
 unfolding TablesAfter
-tables-fitted s b k b′ h f = step (eqb k kind.build) (eqb k kind.testTable) (eqb k kind.write) h
+tables-fitted s b k b′ h f = step (eqb k kind.build) (eqb k kind.testTable) (eqb k kind.write) (eqb k kind.openFile) h
   where
-    step : (t u v : Bool) → either t (Built′ s b b′) (b′ ≡ cond u b (cond v (written s b) (opened s b))) → Fitted (b′ .lengths)
-    step true u v a = rw (a .after) f
-    step false true v a = rw a f
-    step false false true a = rw a f
-    step false false false a =
+    step : (t u v x : Bool) → either t (Built′ s b b′) (b′ ≡ cond u b (cond v (written s b) (cond x (opened s b) (printed s b)))) → Fitted (b′ .lengths)
+    step true u v x a = rw (a .after) f
+    step false true v x a = rw a f
+    step false false true x a = rw a f
+    step false false false false a = rw a f
+    step false false false true a =
         rw a (record { table = opened-fits s (take (b .lengths .file) (b .file)) (b .lengths .table) (f .table); work = f .work; file = f .file; text = f .text })
 
 -- ALL
@@ -106,7 +107,7 @@ tables-fitted s b k b′ h f = step (eqb k kind.build) (eqb k kind.testTable) (e
 pub command-fitted : (c : Command) (line : List ℕ) (h h′ : Held) → Within (h .buffers .lengths) c → CommandAfter (c .kind) (c .values) line h h′ →
     Fitted (h .buffers .lengths) → Fitted (h′ .buffers .lengths)
 unfolding CommandAfter
-command-fitted c line h h′ w a f = step (eqb (c .kind) kind.reset) (leb (c .kind) kind.text) (leb (c .kind) kind.testSet) (leb (c .kind) kind.openFile) a
+command-fitted c line h h′ w a f = step (eqb (c .kind) kind.reset) (leb (c .kind) kind.text) (leb (c .kind) kind.testSet) (leb (c .kind) kind.print) a
   where
     step : (t u v x : Bool) →
         either t (h′ ≡ heldOf noDesk (h .buffers .table) (h .buffers .work) (h .buffers .file) (h .buffers .text))

@@ -14,7 +14,7 @@ use Rattle.desk.specs.declared.Desk.{Desk}
 use Rattle.table_file.specs.Open.{openOf, handed}
 use Rattle.desk_buffers.specs.Buffers.{buffersOf, buffersAfter}
 use Rattle.desk.specs.Steps.{setAfter, textAfter, runAfter}
-use Rattle.desk.specs.After.{Building, fileAfter, openedLength, openedTable, TablesAfter, heldOf, noDesk, CommandAfter}
+use Rattle.desk.specs.After.{Building, Printing, fileAfter, openedLength, openedTable, TablesAfter, heldOf, noDesk, CommandAfter}
 use Rattle.desk_buffers.proofs.BytesLaws.{within-take, within-drop}
 
 -- a set is its three fields
@@ -47,12 +47,35 @@ module _ (s : Set) (k : ℕ) (l : Lengths) (t w f x : List ℕ) where
       write-step e mt mf ht hf f′ h =
           rw (ne-eqb k kind.build n, ne-eqb k kind.testTable n′, eq-eqb k kind.write e, h, within-take (l .table) mt t ht, within-take (l .file) mf f hf, within-drop (l .file) mf f hf)
 
-      pub open-step : (k ≡ kind.write → ⊥) → (mf : ℕ) → mf ≡ min (l .file) (length f) → (m : ℕ) (t′ : List ℕ) →
-          m ≡ openedLength (openOf s (take mf f)) (handed s (take mf f)) (l .table) → t′ ≡ openedTable (openOf s (take mf f)) (handed s (take mf f)) t →
-          TablesAfter s (buffersOf l t w f x) k (buffersOf (record { table = m; work = l .work; file = l .file; text = l .text }) t′ w f x)
-      unfolding TablesAfter
-      open-step n″ mf hf m t′ e h =
-          rw (ne-eqb k kind.build n, ne-eqb k kind.testTable n′, ne-eqb k kind.write n″, e, h, within-take (l .file) mf f hf)
+      module _ (n″ : k ≡ kind.write → ⊥) where
+        pub open-step : k ≡ kind.openFile → (mf : ℕ) → mf ≡ min (l .file) (length f) → (m : ℕ) (t′ : List ℕ) →
+            m ≡ openedLength (openOf s (take mf f)) (handed s (take mf f)) (l .table) → t′ ≡ openedTable (openOf s (take mf f)) (handed s (take mf f)) t →
+            TablesAfter s (buffersOf l t w f x) k (buffersOf (record { table = m; work = l .work; file = l .file; text = l .text }) t′ w f x)
+        unfolding TablesAfter
+        open-step g mf hf m t′ e h =
+            rw (ne-eqb k kind.build n, ne-eqb k kind.testTable n′, ne-eqb k kind.write n″, eq-eqb k kind.openFile g, e, h, within-take (l .file) mf f hf)
+
+        pub print-step : (k ≡ kind.openFile → ⊥) → (mt mw mf mx : ℕ) →
+            mt ≡ min (l .table) (length t) → mw ≡ min (l .work) (length w) → mf ≡ min (l .file) (length f) → mx ≡ min (l .text) (length x) → (t′ w′ f′ : List ℕ) →
+            Printing (take mx x) (take mt t) (take mw w) (take mf f) t′ w′ f′ → TablesAfter s (buffersOf l t w f x) k (buffersOf l (t′ ++ drop mt t) (w′ ++ drop mw w) (f′ ++ drop mf f) x)
+        unfolding TablesAfter
+        print-step g mt mw mf mx ht hw hf hx t′ w′ f′ p =
+            rw (
+              ne-eqb k kind.build n,
+              ne-eqb k kind.testTable n′,
+              ne-eqb k kind.write n″,
+              ne-eqb k kind.openFile g,
+              p .table,
+              p .work,
+              p .file,
+              within-take (l .table) mt t ht,
+              within-take (l .work) mw w hw,
+              within-take (l .file) mf f hf,
+              within-take (l .text) mx x hx,
+              within-drop (l .table) mt t ht,
+              within-drop (l .work) mw w hw,
+              within-drop (l .file) mf f hf,
+            )
 
 -- ALL THAT IS HELD, BY THE GROUPS OF THE KINDS
 
@@ -74,12 +97,12 @@ module _ (k : ℕ) (vs : Values) (line : List ℕ) (d : Desk) (t w f x : List �
       set-step e r x′ h h′ = rw (ne-eqb k kind.reset n, lt-leb k kind.text a, le-leb k kind.testSet e, h, h′)
 
       module _ (a′ : kind.testSet < k) where
-        pub tables-step : k ≤ kind.openFile → (r : Lengths) (t′ w′ f′ : List ℕ) → TablesAfter (d .set) (buffersOf (d .lengths) t w f x) k (buffersOf r t′ w′ f′ x) →
+        pub tables-step : k ≤ kind.print → (r : Lengths) (t′ w′ f′ : List ℕ) → TablesAfter (d .set) (buffersOf (d .lengths) t w f x) k (buffersOf r t′ w′ f′ x) →
             CommandAfter k vs line (heldOf d t w f x) (heldOf (record { set = d .set; run = d .run; lengths = r }) t′ w′ f′ x)
         unfolding CommandAfter
-        tables-step e r t′ w′ f′ h = rw (ne-eqb k kind.reset n, lt-leb k kind.text a, lt-leb k kind.testSet a′, le-leb k kind.openFile e) (record { set = refl; run = refl; buffers = h })
+        tables-step e r t′ w′ f′ h = rw (ne-eqb k kind.reset n, lt-leb k kind.text a, lt-leb k kind.testSet a′, le-leb k kind.print e) (record { set = refl; run = refl; buffers = h })
 
-        pub run-step : kind.openFile < k → (r : Run) → r ≡ runAfter k vs (d .set) (take (d .lengths .table) t) (d .run) →
+        pub run-step : kind.print < k → (r : Run) → r ≡ runAfter k vs (d .set) (take (d .lengths .table) t) (d .run) →
             CommandAfter k vs line (heldOf d t w f x) (heldOf (record { set = d .set; run = r; lengths = d .lengths }) t w f x)
         unfolding CommandAfter
-        run-step e r h = rw (ne-eqb k kind.reset n, lt-leb k kind.text a, lt-leb k kind.testSet a′, lt-leb k kind.openFile e, h)
+        run-step e r h = rw (ne-eqb k kind.reset n, lt-leb k kind.text a, lt-leb k kind.testSet a′, lt-leb k kind.print e, h)

@@ -16,6 +16,7 @@ use Rattle.table_file.specs.declared.opener.Opened.{Opened}
 use Rattle.table_file.specs.declared.opener.Opened.the-variants.{Opens, Refused}
 use Rattle.table_file.specs.Write.{writeOf, fileWritten}
 use Rattle.table_file.specs.Open.{openOf, handed}
+use Rattle.reporter.specs.Report.{Left, reportOf}
 use Rattle.guard.specs.declared.runs.Run.{Run}
 use Rattle.guard.specs.Runs.{startRun}
 use Rattle.desk.specs.declared.Desk.{Desk}
@@ -47,6 +48,12 @@ abbrev pub openedTable : Opened → List ℕ → List ℕ → List ℕ
 openedTable Opens part t = putAt 0 part t
 openedTable (Refused f) part t = t
 
+-- `print`: what the report on a text leaves of a table, a work buffer and a file buffer
+pub record Printing (x t w f t′ w′ f′ : List ℕ) : Type 0 where
+  pub table : t′ ≡ reportOf x t w f .table
+  pub work : w′ ≡ reportOf x t w f .work
+  pub file : f′ ≡ reportOf x t w f .output
+
 -- the buffers, lent with their present lengths
 module _ (s : Set) (b : Buffers) where
   abbrev l : Lengths
@@ -55,13 +62,16 @@ module _ (s : Set) (b : Buffers) where
   abbrev table : List ℕ
   table = take (l .table) (b .table)
 
+  abbrev work : List ℕ
+  work = take (l .work) (b .work)
+
   abbrev file : List ℕ
   file = take (l .file) (b .file)
 
   pub record Built′ (b′ : Buffers) : Type 0 where
     pub table′ : List ℕ
     pub work′ : List ℕ
-    pub building : Building s table (take (l .work) (b .work)) table′ work′
+    pub building : Building s table work table′ work′
     pub after : b′ ≡ buffersOf (b .lengths) (table′ ++ drop (l .table) (b .table)) (work′ ++ drop (l .work) (b .work)) (b .file) (b .text)
 
   abbrev pub written : Buffers
@@ -73,10 +83,17 @@ module _ (s : Set) (b : Buffers) where
       (record { table = openedLength (openOf s file) (handed s file) (l .table); work = l .work; file = l .file; text = l .text })
       (openedTable (openOf s file) (handed s file) (b .table)) (b .work) (b .file) (b .text)
 
+  abbrev pub left : Left
+  left = reportOf (take (l .text) (b .text)) table work file
+
+  abbrev pub printed : Buffers
+  printed =
+      buffersOf l (left .table ++ drop (l .table) (b .table)) (left .work ++ drop (l .work) (b .work)) (left .output ++ drop (l .file) (b .file)) (b .text)
+
   unfoldable pub TablesAfter : ℕ → Buffers → Type 0
   TablesAfter k b′ =
       either (eqb k kind.build) (Built′ b′)
-      (b′ ≡ cond (eqb k kind.testTable) b (cond (eqb k kind.write) written opened))
+      (b′ ≡ cond (eqb k kind.testTable) b (cond (eqb k kind.write) written (cond (eqb k kind.openFile) opened printed)))
 
 -- ALL
 
@@ -125,4 +142,4 @@ module _ (k : ℕ) (vs : Values) (line : List ℕ) (h : Held) where
       either (eqb k kind.reset) (h′ ≡ heldOf noDesk (b .table) (b .work) (b .file) (b .text))
       (either (leb k kind.text) (h′ ≡ bufferHeld)
       (either (leb k kind.testSet) (h′ ≡ setHeld)
-      (either (leb k kind.openFile) (TablesHeld h′) (h′ ≡ runHeld))))
+      (either (leb k kind.print) (TablesHeld h′) (h′ ≡ runHeld))))

@@ -24,14 +24,17 @@ runAfter k vs s table r =
     (cond (eqb k kind.showRun) r
     (runWith k (vs .first) (vs .second) r))))
 
--- `sheet`, `show set` and `test set` leave the set
+-- `past`, `sheet`, `show set` and `test set` leave the set
 abbrev pub leavesSet : ℕ → Bool
-leavesSet k = eqb k kind.sheet || (eqb k kind.showSet || eqb k kind.testSet)
+leavesSet k = eqb k kind.past || (eqb k kind.sheet || (eqb k kind.showSet || eqb k kind.testSet))
 
--- the set: what `read` returns, or a field set
+-- the set: what `read` returns, or `next` of a reader at a place; or a field set
 unfoldable pub setAfter : ℕ → Values → List ℕ → List ℕ → Set → Set
 setAfter k vs line text s =
-    cond (eqb k kind.read) (readText text .set) (cond (leavesSet k) s (setWith k (vs .first) (vs .second) line s))
+    cond (eqb k kind.read) (readText text .set)
+    (cond (eqb k kind.next) (readText (drop (vs .first) text) .set)
+    (cond (leavesSet k) s
+    (setWith k (vs .first) (vs .second) line s)))
 
 -- the text of n bytes: `sheet` writes the set's sheet into it
 unfoldable pub textAfter : ℕ → Set → ℕ → List ℕ → List ℕ

@@ -69,8 +69,8 @@ pub fn carry_out(
         after.set = set_commands::carry_out(c, line, set, l.text, text);
         return after;
     }
-    if c.kind <= kinds::OPEN {
-        after.lengths = table_commands::carry_out(c, set, l, table, work, file);
+    if c.kind <= kinds::PRINT {
+        after.lengths = table_commands::carry_out(c, set, l, table, work, file, text);
         return after;
     }
     after.run = run_commands::carry_out(c, set, run, l.table, table);

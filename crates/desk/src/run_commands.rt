@@ -44,7 +44,7 @@ fn ask(s: Set, table: &[u8], r: Run, proposal: u8) -> Run
     let asked = asks::ask(s, table, r, proposal);
     let chosen = asked.answer;
     match chosen {
-        Chosen::Choice(c) => say::last(b"choice ", c as u32),
+        Chosen::Choice(c) => say::last(b"choice ", c as u64),
         Chosen::Refused(f) => say::refused(f),
     }
     asked.run
@@ -62,30 +62,30 @@ fn report(s: Set, r: Run, reading: u32, finished: bool, arrivals: u8) -> Run
 fn show_job(job: Job) {
     match job {
         Job::Empty => say::say(b" none"),
-        Job::InHand(g) => say::number(b" ", g as u32),
+        Job::InHand(g) => say::number(b" ", g as u64),
     }
 }
 
 fn show_place(x: TaskState, n: Counts) {
-    say::number(b" ", x.age as u32);
+    say::number(b" ", x.age as u64);
     let job = x.job;
     show_job(job);
-    say::number(b" ", n.arrived);
-    say::number(b" ", n.finished);
-    say::number(b" ", n.replaced);
+    say::number(b" ", n.arrived as u64);
+    say::number(b" ", n.finished as u64);
+    say::number(b" ", n.replaced as u64);
 }
 
 fn show_awaited(awaited: Awaited) {
     match awaited {
         Awaited::Nothing => say::say(b" none"),
-        Awaited::Choice(c) => say::number(b" ", c as u32),
+        Awaited::Choice(c) => say::number(b" ", c as u64),
     }
 }
 
 fn show(r: Run) {
-    say::number(b"run ", r.reading);
-    say::number(b" ", r.ticks);
-    say::number(b" ", r.substitutions);
+    say::number(b"run ", r.reading as u64);
+    say::number(b" ", r.ticks as u64);
+    say::number(b" ", r.substitutions as u64);
     let awaited = r.awaited;
     show_awaited(awaited);
     let mut i = 0;

@@ -5,22 +5,22 @@ use commands::lines::Command;
 use desk_buffers::bytes;
 use desk_buffers::say;
 use sheet_reader::ReadAnswer;
+use sheet_reader::SheetRead;
 use sheet_writer::Wrote;
 use tasks::sets;
 use tasks::sets::Set;
 use tasks::sets::Task;
 use tasks::sets::Tested;
 ghost use mathlib.Core.Path.{_≡_};
-ghost use lib.ListN.{take};
+ghost use lib.ListN.{take, drop};
 ghost use Rattle.sheet_reader.specs.Reading.{readText};
 ghost use Rattle.sheet_writer.specs.Writing.{writeOf};
 ghost use Rattle.desk.specs.Steps.{setAfter, textAfter};
 
-// The text read as a sheet: the set becomes what that returns.
-fn read(text: &[u8]) -> Set
-    ensures { λ s. ⌜ s ≡ readText (now (text .entry)) .set ⌝ }
+// What reading answers, and the set that it returns.
+fn taken(r: SheetRead) -> Set
+    ensures { λ s. ⌜ s ≡ r .set ⌝ }
 {
-    let r = sheet::read(text);
     let answer = r.answer;
     match answer {
         ReadAnswer::Taken => say::ok(),
@@ -29,34 +29,47 @@ fn read(text: &[u8]) -> Set
     r.set
 }
 
+// The text read as a sheet.
+fn read(text: &[u8]) -> Set
+    ensures { λ s. ⌜ s ≡ readText (now (text .entry)) .set ⌝ }
+{
+    taken(sheet::read(text))
+}
+
+// A reader of the text, at a place: what it reads there.
+fn next(text: &[u8], at: usize) -> Set
+    ensures { λ s. ⌜ s ≡ readText (drop at (now (text .entry))) .set ⌝ }
+{
+    taken(sheet::read_from(text, at))
+}
+
+// Its place after that.
+fn past(text: &[u8], at: usize) {
+    say::last(b"place ", sheet::place_after(text, at) as u64);
+}
+
 fn write_sheet(s: Set, text: &mut [u8])
     ensures { λ _. ⌜ now (text .exit) ≡ writeOf s (now (text .entry)) .bytes ⌝ }
 {
     let wrote = sheet::write(s, text);
     match wrote {
-        Wrote::Length(n) => {
-            say::number(b"sheet ", n);
-            say::say(b" ");
-            let end = bytes::within(n, text);
-            say::bytes(&text[..end]);
-            say::say(b"\n");
-        }
+        Wrote::Length(n) => say::written(b"sheet ", n, text),
         Wrote::Refused(f) => say::refused(f),
     }
 }
 
 fn show_task(t: Task) {
-    say::number(b" ", t.kind as u32);
-    say::number(b" ", t.deadline as u32);
-    say::number(b" ", t.runs as u32);
-    say::number(b" ", t.gaps as u32);
+    say::number(b" ", t.kind as u64);
+    say::number(b" ", t.deadline as u64);
+    say::number(b" ", t.runs as u64);
+    say::number(b" ", t.gaps as u64);
 }
 
 fn show(s: Set) {
     say::say(b"set ");
     let name = s.name;
     say::bytes(&name);
-    say::number(b" ", s.count as u32);
+    say::number(b" ", s.count as u64);
     let mut i = 0;
     while i < 7 {
         let t = s.tasks[i];
@@ -69,7 +82,7 @@ fn show(s: Set) {
 fn test(s: Set) {
     let tested = sets::test(s);
     match tested {
-        Tested::States(n) => say::last(b"states ", n),
+        Tested::States(n) => say::last(b"states ", n as u64),
         Tested::Refused(f) => say::refused(f),
     }
 }
@@ -79,9 +92,17 @@ pub fn carry_out(c: Command, line: &[u8], s: Set, n: u32, text: &mut [u8]) -> Se
     ensures { λ r. ⌜ r ≡ setAfter (c .kind) (c .values) (now (line .entry)) (take n (now (text .entry))) s ⌝ }
     ensures { λ _. ⌜ now (text .exit) ≡ textAfter (c .kind) s n (now (text .entry)) ⌝ }
 {
+    let vs = c.values;
     let end = bytes::within(n, text);
     if c.kind == kinds::READ {
         return read(&text[..end]);
+    }
+    if c.kind == kinds::NEXT {
+        return next(&text[..end], vs.first as usize);
+    }
+    if c.kind == kinds::PAST {
+        past(&text[..end], vs.first as usize);
+        return s;
     }
     if c.kind == kinds::SHEET {
         write_sheet(s, &mut text[..end]);
@@ -96,6 +117,5 @@ pub fn carry_out(c: Command, line: &[u8], s: Set, n: u32, text: &mut [u8]) -> Se
         return s;
     }
     say::ok();
-    let vs = c.values;
     set_fields::with(s, c.kind, vs.first, vs.second, line)
 }

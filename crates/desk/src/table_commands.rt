@@ -4,6 +4,7 @@ use commands::kinds;
 use commands::lines::Command;
 use desk_buffers::bytes;
 use desk_buffers::say;
+use reporter::Reported;
 use shield::builder;
 use shield::builder::Built;
 use shield::tester;
@@ -13,14 +14,13 @@ use table_file::opener::Opened;
 use table_file::writer;
 use table_file::writer::Written;
 use tasks::sets::Set;
-ghost use mathlib.Core.List.{List};
 ghost use mathlib.Core.Path.{_≡_};
-ghost use Prim.Native.Nat.{ℕ, min};
+ghost use Prim.Native.Nat.{min};
 ghost use lib.ListN.{length};
 ghost use Rattle.table_file.specs.Open.{openOf, handed};
 ghost use Rattle.desk_buffers.specs.Bytes.{putAt};
 ghost use Rattle.desk_buffers.specs.Buffers.{buffersOf};
-ghost use Rattle.desk.specs.After.{Building, fileAfter, openedLength, openedTable, TablesAfter};
+ghost use Rattle.desk.specs.After.{Building, Printing, fileAfter, openedLength, openedTable, TablesAfter};
 
 fn build(s: Set, table: &mut [u8], work: &mut [u8])
     ensures { λ _. ⌜ Building s (now (table .entry)) (now (work .entry)) (now (table .exit)) (now (work .exit)) ⌝ }
@@ -32,9 +32,9 @@ fn build(s: Set, table: &mut [u8], work: &mut [u8])
             rounds,
             start,
         } => {
-            say::number(b"shield ", safe);
-            say::number(b" ", rounds);
-            say::last(b" ", start as u32);
+            say::number(b"shield ", safe as u64);
+            say::number(b" ", rounds as u64);
+            say::last(b" ", start as u64);
         }
         Built::Refused(f) => say::refused(f),
     }
@@ -53,7 +53,7 @@ fn write(s: Set, table: &[u8], file: &mut [u8])
 {
     let written = writer::write(s, table, file);
     match written {
-        Written::Length(n) => say::last(b"file ", n),
+        Written::Length(n) => say::last(b"file ", n as u64),
         Written::Refused(f) => say::refused(f),
     }
 }
@@ -65,8 +65,8 @@ fn take(part: &[u8], table: &mut [u8]) -> u32
 {
     let n = bytes::size(part);
     bytes::copy(part, table);
-    say::number(b"part ", n);
-    say::last(b" ", bytes::adler(part));
+    say::number(b"part ", n as u64);
+    say::last(b" ", bytes::adler(part) as u64);
     n
 }
 
@@ -85,6 +85,17 @@ fn open(s: Set, file: &[u8], n: u32, table: &mut [u8]) -> u32
     }
 }
 
+// The report on the text, with the table and the work buffer, into the file.
+fn print(text: &[u8], table: &mut [u8], work: &mut [u8], file: &mut [u8])
+    ensures { λ _. ⌜ Printing (now (text .entry)) (now (table .entry)) (now (work .entry)) (now (file .entry)) (now (table .exit)) (now (work .exit)) (now (file .exit)) ⌝ }
+{
+    let reported = reporter::report(text, table, work, file);
+    match reported {
+        Reported::Length(n) => say::written(b"report ", n, file),
+        Reported::Refused(f) => say::refused(f),
+    }
+}
+
 // A command on the table or the file, and the lengths after it.
 pub fn carry_out(
     c: Command,
@@ -93,8 +104,9 @@ pub fn carry_out(
     table: &mut [u8],
     work: &mut [u8],
     file: &mut [u8],
+    text: &[u8],
 ) -> Lengths
-    ensures { λ r. ⌜ ((x : List ℕ) → TablesAfter s (buffersOf l (now (table .entry)) (now (work .entry)) (now (file .entry)) x) (c .kind) (buffersOf r (now (table .exit)) (now (work .exit)) (now (file .exit)) x)) ⌝ }
+    ensures { λ r. ⌜ TablesAfter s (buffersOf l (now (table .entry)) (now (work .entry)) (now (file .entry)) (now (text .entry))) (c .kind) (buffersOf r (now (table .exit)) (now (work .exit)) (now (file .exit)) (now (text .entry))) ⌝ }
 {
     let t = bytes::within(l.table, table);
     let w = bytes::within(l.work, work);
@@ -112,6 +124,11 @@ pub fn carry_out(
         write(s, &table[..t], &mut file[..f]);
         return after;
     }
-    after.table = open(s, &file[..f], l.table, table);
+    if c.kind == kinds::OPEN {
+        after.table = open(s, &file[..f], l.table, table);
+        return after;
+    }
+    let x = bytes::within(l.text, text);
+    print(&text[..x], &mut table[..t], &mut work[..w], &mut file[..f]);
     after
 }

@@ -20,8 +20,8 @@ fn show(buf: &[u8], from: u32, count: u32) {
 }
 
 fn sum(n: u32, buf: &[u8]) {
-    say::number(b"sum ", n);
-    say::last(b" ", bytes::adler(buf));
+    say::number(b"sum ", n as u64);
+    say::last(b" ", bytes::adler(buf) as u64);
 }
 
 // A command on one buffer of n bytes, and its new length.

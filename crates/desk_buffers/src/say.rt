@@ -1,4 +1,5 @@
 // The words of an answer, on standard output.
+use crate::bytes::within;
 use libc::STDOUT_FILENO;
 use tasks::refusals::Refusal;
 
@@ -11,13 +12,13 @@ pub fn ok() {
 }
 
 // A number, after the words or the space before it.
-pub fn number(before: &[u8], n: u32) {
+pub fn number(before: &[u8], n: u64) {
     say(before);
-    io::print_decimal(STDOUT_FILENO, n as u64);
+    io::print_decimal(STDOUT_FILENO, n);
 }
 
 // The last number of an answer.
-pub fn last(before: &[u8], n: u32) {
+pub fn last(before: &[u8], n: u64) {
     number(before, n);
     say(b"\n");
 }
@@ -35,14 +36,21 @@ pub fn bytes(buf: &[u8]) {
     }
 }
 
-// The answer to a mangled line names it.
-pub fn mangled(line: u64) {
-    say(b"? ");
-    io::print_decimal(STDOUT_FILENO, line);
+// So many first bytes of a buffer, after their number.
+pub fn written(before: &[u8], n: u32, buf: &[u8]) {
+    number(before, n as u64);
+    say(b" ");
+    let end = within(n, buf);
+    bytes(&buf[..end]);
     say(b"\n");
 }
 
+// The answer to a mangled line names it.
+pub fn mangled(line: u64) {
+    last(b"? ", line);
+}
+
 pub fn refused(f: Refusal) {
-    number(b"refused ", f.number as u32);
-    last(b" ", f.place);
+    number(b"refused ", f.number as u64);
+    last(b" ", f.place as u64);
 }

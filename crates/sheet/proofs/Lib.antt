@@ -1,3 +1,5 @@
 pub mod Apart
+pub mod OnText
+pub mod Begun
 pub mod RoundTrips
 pub mod Numbers

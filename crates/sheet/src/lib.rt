@@ -1,4 +1,4 @@
-// Sheets: a reader that holds the text and its place, and the two functions that every other caller uses.
+// Sheets: a reader that holds the text and its place, and the plain functions that every other caller uses.
 use sheet_reader::SheetRead;
 use sheet_writer::Wrote;
 use tasks::sets::Set;
@@ -14,11 +14,11 @@ pub struct Reader<'a> {
     pub at: usize,
 }
 
-// A reader at a text's first byte.
-pub fn begin<'a>(text: &'a [u8]) -> Reader<'a>
-    ensures { λ r. ⌜ (r .text ≡ text .entry) × (r .at ≡ 0) ⌝ }
+// A reader at a place of a text.
+pub fn begin<'a>(text: &'a [u8], at: usize) -> Reader<'a>
+    ensures { λ r. ⌜ (r .text ≡ text .entry) × (r .at ≡ at) ⌝ }
 {
-    Reader { text, at: 0 }
+    Reader { text, at }
 }
 
 // All that stands from a reader's place to the end of its text, read as one sheet; a refusal's place counts from the reader's.
@@ -38,11 +38,25 @@ pub fn past<'a>(r: Reader<'a>) -> Reader<'a>
     }
 }
 
+// What a reader at a place of a text reads.
+pub fn read_from(text: &[u8], at: usize) -> SheetRead
+    ensures { λ r. ⌜ r ≡ readText (drop at (now (text .entry))) ⌝ }
+{
+    next(begin(text, at))
+}
+
+// Where it stands after that.
+pub fn place_after(text: &[u8], at: usize) -> usize
+    ensures { λ r. ⌜ r ≡ at + reachText (drop at (now (text .entry))) ⌝ }
+{
+    past(begin(text, at)).at
+}
+
 // The set that a text says, or the refusal beside a set of zeros.
 pub fn read(text: &[u8]) -> SheetRead
     ensures { λ r. ⌜ r ≡ readText (now (text .entry)) ⌝ }
 {
-    next(begin(text))
+    read_from(text, 0)
 }
 
 // The one sheet that a set has, into a lent buffer: its length, or the refusal.

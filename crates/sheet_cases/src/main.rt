@@ -37,7 +37,7 @@ fn read(text: &[u8]) {
     let a = r.answer;
     let set = r.set;
     say_answer(a);
-    put_number(b" at ", sheet_reader::place_after(text, 0) as u64);
+    put_number(b" at ", sheet::place_after(text, 0) as u64);
     say_set(set);
     put(b"\n");
     write_back(a, set);

@@ -1,13 +1,16 @@
 -- What the call returns.
-use mathlib.Core.Path.{ap}
+use mathlib.Core.Path.{ap, _∙_}
 use borrow.Author.Needs.{needs}
 use Rattle.desk.proofs.set_commands.read.Statement.{statement}
 use Rattle.desk.proofs.set_commands.read.Tie as tie
 
 returns : tie.Need-returns
-returns c = ap (λ x. x .set) (c .before .before .read .ensures)
+returns c = c .taken .ensures ∙ ap (λ x. x .set) (c .before .read .ensures)
 
 pub read-spec : {M : Type 1} → statement M
 read-spec =
     tie.close
-    (tie.spec (λ c κs. search needs) (λ c. search needs) (λ c κs. search needs) (λ c. search needs) (λ c κs. search needs) returns)
+    (tie.spec
+    (λ c κs. search needs)
+    (λ c κs. search needs)
+    returns)

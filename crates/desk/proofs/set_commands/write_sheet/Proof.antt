@@ -5,7 +5,7 @@ use Rattle.desk.proofs.set_commands.write_sheet.Statement.{statement}
 use Rattle.desk.proofs.set_commands.write_sheet.Tie as tie
 
 returns : tie.Need-returns
-returns c = ap (λ x. x .bytes) (c .before .before .before .before .before .before .before .before .before .before .before .before .before .before .before .write .ensures)
+returns c = ap (λ x. x .bytes) (c .before .before .before .before .before .before .before .before .write .ensures)
 
 returns-2 : tie.Need-returns-2
 returns-2 c = ap (λ x. x .bytes) (c .before .before .before .before .before .before .write .ensures)
@@ -16,14 +16,6 @@ write-sheet-spec =
     (tie.spec
     (λ c κs. search needs)
     (λ c. search needs)
-    (λ c. search needs)
-    (λ c κs. search needs)
-    (λ c. search needs)
-    (λ c κs. search needs)
-    (λ c κs. search needs)
-    (λ c. search needs)
-    (λ c. search needs)
-    (λ c κs. search needs)
     (λ c. search needs)
     (λ c κs. search needs)
     (λ c. search needs)
