@@ -21,7 +21,7 @@ use Rattle.table_file.specs.Files.{headerLength}
 use Rattle.table_file.specs.Open.{openOf, partOf, handed}
 use Rattle.table_file.proofs.Opening.{opening}
 use Rattle.desk_buffers.specs.Buffers.{Buffers, lengthAfter, buffersAfter}
-use Rattle.desk.specs.After.{either, openedLength, Built′, written, opened, printed, TablesAfter, Held, heldOf, noDesk, setHeld, runHeld, bufferHeld, TablesHeld, CommandAfter}
+use Rattle.desk.specs.After.{openedLength, built, written, opened, printed, tablesAfter, Held, heldOf, noDesk, setHeld, runHeld, bufferHeld, tablesHeld, commandAfter}
 use Rattle.desk.specs.Fitted.{Fitted}
 
 -- ONE BUFFER
@@ -89,33 +89,32 @@ opened-fits s file n h = step (openOf s file) refl
         omega (arith, v .long, length-drop (headerLength s) file, passed-valid s (v .set) .states)
     step (Refused r) e = h
 
-tables-fitted : (s : Set) (b : Buffers) (k : ℕ) (b′ : Buffers) → TablesAfter s b k b′ → Fitted (b .lengths) → Fitted (b′ .lengths)
-unfolding TablesAfter
-tables-fitted s b k b′ h f = step (eqb k kind.build) (eqb k kind.testTable) (eqb k kind.write) (eqb k kind.openFile) h
+tables-fitted : (s : Set) (b : Buffers) (k : ℕ) → Fitted (b .lengths) → Fitted (tablesAfter s b k .lengths)
+unfolding tablesAfter
+tables-fitted s b k f = step (eqb k kind.build) (eqb k kind.testTable) (eqb k kind.write) (eqb k kind.openFile)
   where
-    step : (t u v x : Bool) → either t (Built′ s b b′) (b′ ≡ cond u b (cond v (written s b) (cond x (opened s b) (printed s b)))) → Fitted (b′ .lengths)
-    step true u v x a = rw (a .after) f
-    step false true v x a = rw a f
-    step false false true x a = rw a f
-    step false false false false a = rw a f
-    step false false false true a =
-        rw a (record { table = opened-fits s (take (b .lengths .file) (b .file)) (b .lengths .table) (f .table); work = f .work; file = f .file; text = f .text })
+    step : (t u v x : Bool) → Fitted ((cond t (built s b) (cond u b (cond v (written s b) (cond x (opened s b) (printed s b))))) .lengths)
+    step true u v x = f
+    step false true v x = f
+    step false false true x = f
+    step false false false true = record { table = opened-fits s (take (b .lengths .file) (b .file)) (b .lengths .table) (f .table); work = f .work; file = f .file; text = f .text }
+    step false false false false = f
 
 -- ALL
 
 -- a command that is taken leaves every length at most its most
-pub command-fitted : (c : Command) (line : List ℕ) (h h′ : Held) → Within (h .buffers .lengths) c → CommandAfter (c .kind) (c .values) line h h′ →
-    Fitted (h .buffers .lengths) → Fitted (h′ .buffers .lengths)
-unfolding CommandAfter
-command-fitted c line h h′ w a f = step (eqb (c .kind) kind.reset) (leb (c .kind) kind.text) (leb (c .kind) kind.testSet) (leb (c .kind) kind.print) a
+pub command-fitted : (c : Command) (line : List ℕ) (h : Held) → Within (h .buffers .lengths) c → Fitted (h .buffers .lengths) → Fitted (commandAfter (c .kind) (c .values) line h .buffers .lengths)
+unfolding commandAfter
+command-fitted c line h w f = step (eqb (c .kind) kind.reset) (leb (c .kind) kind.text) (leb (c .kind) kind.testSet) (leb (c .kind) kind.print)
   where
     step : (t u v x : Bool) →
-        either t (h′ ≡ heldOf noDesk (h .buffers .table) (h .buffers .work) (h .buffers .file) (h .buffers .text))
-        (either u (h′ ≡ bufferHeld (c .kind) (c .values) line h)
-        (either v (h′ ≡ setHeld (c .kind) (c .values) line h)
-        (either x (TablesHeld (c .kind) (c .values) line h h′) (h′ ≡ runHeld (c .kind) (c .values) line h)))) → Fitted (h′ .buffers .lengths)
-    step true u v x e = rw e (record { table = omega arith; work = omega arith; file = omega arith; text = omega arith })
-    step false true v x e = rw e (buffers-fitted c line (h .buffers) w f)
-    step false false true x e = rw e f
-    step false false false true e = tables-fitted (h .set) (h .buffers) (c .kind) (h′ .buffers) (e .buffers) f
-    step false false false false e = rw e f
+        Fitted
+        ((cond t (heldOf noDesk (h .buffers .table) (h .buffers .work) (h .buffers .file) (h .buffers .text))
+        (cond u (bufferHeld (c .kind) (c .values) line h)
+        (cond v (setHeld (c .kind) (c .values) line h)
+        (cond x (tablesHeld (c .kind) (c .values) line h) (runHeld (c .kind) (c .values) line h))))) .buffers .lengths)
+    step true u v x = record { table = omega arith; work = omega arith; file = omega arith; text = omega arith }
+    step false true v x = buffers-fitted c line (h .buffers) w f
+    step false false true x = f
+    step false false false true = tables-fitted (h .set) (h .buffers) (c .kind) f
+    step false false false false = f

@@ -1,7 +1,6 @@
 -- What a command leaves of all that is held.
-use mathlib.Core.Bool.{Bool, true, false, cond}
+use mathlib.Core.Bool.{cond}
 use mathlib.Core.List.{List, _++_}
-use mathlib.Core.Path.{_≡_}
 use Prim.Native.Nat.{ℕ, min}
 use lib.Dec.{eqb, leb}
 use lib.ListN.{length, take, drop}
@@ -10,8 +9,7 @@ use Rattle.commands.specs.declared.forms.Values.{Values}
 use Rattle.commands.specs.Kinds as kind
 use Rattle.tasks.specs.declared.sets.Set.{Set}
 use Rattle.tasks.specs.Sets.{noSet}
-use Rattle.shield.specs.declared.builder.Built.{Built}
-use Rattle.shield.specs.Build.{Builds}
+use Rattle.shield.specs.Build.{buildOf, tableBuilt, workBuilt}
 use Rattle.table_file.specs.declared.opener.Opened.{Opened}
 use Rattle.table_file.specs.declared.opener.Opened.the-variants.{Opens, Refused}
 use Rattle.table_file.specs.Write.{writeOf, fileWritten}
@@ -24,16 +22,14 @@ use Rattle.desk_buffers.specs.Bytes.{putAt}
 use Rattle.desk_buffers.specs.Buffers.{Buffers, buffersOf, buffersAfter}
 use Rattle.desk.specs.Steps.{setAfter, textAfter, runAfter}
 
-abbrev pub either : Bool → Type 0 → Type 0 → Type 0
-either true P Q = P
-either false P Q = Q
-
 -- TABLE AND FILE
 
 -- `build`: what the builder leaves of a table and a work buffer
-pub record Building (s : Set) (t w t′ w′ : List ℕ) : Type 0 where
-  pub answer : Built
-  pub built : Builds s t w answer t′ w′
+abbrev pub builtTable : Set → List ℕ → List ℕ → List ℕ
+builtTable s t w = tableBuilt s (buildOf s (length t) (length w)) t
+
+abbrev pub builtWork : Set → List ℕ → List ℕ → List ℕ
+builtWork s t w = workBuilt s (buildOf s (length t) (length w)) w
 
 -- `write`: what the writer leaves of a file buffer
 abbrev pub fileAfter : Set → List ℕ → List ℕ → List ℕ
@@ -47,12 +43,6 @@ openedLength (Refused f) part n = n
 abbrev pub openedTable : Opened → List ℕ → List ℕ → List ℕ
 openedTable Opens part t = putAt 0 part t
 openedTable (Refused f) part t = t
-
--- `print`: what the report on a text leaves of a table, a work buffer and a file buffer
-pub record Printing (x t w f t′ w′ f′ : List ℕ) : Type 0 where
-  pub table : t′ ≡ reportOf x t w f .table
-  pub work : w′ ≡ reportOf x t w f .work
-  pub file : f′ ≡ reportOf x t w f .output
 
 -- the buffers, lent with their present lengths
 module _ (s : Set) (b : Buffers) where
@@ -68,11 +58,8 @@ module _ (s : Set) (b : Buffers) where
   abbrev file : List ℕ
   file = take (l .file) (b .file)
 
-  pub record Built′ (b′ : Buffers) : Type 0 where
-    pub table′ : List ℕ
-    pub work′ : List ℕ
-    pub building : Building s table work table′ work′
-    pub after : b′ ≡ buffersOf (b .lengths) (table′ ++ drop (l .table) (b .table)) (work′ ++ drop (l .work) (b .work)) (b .file) (b .text)
+  abbrev pub built : Buffers
+  built = buffersOf l (builtTable s table work ++ drop (l .table) (b .table)) (builtWork s table work ++ drop (l .work) (b .work)) (b .file) (b .text)
 
   abbrev pub written : Buffers
   written = buffersOf l (b .table) (b .work) (fileAfter s table file ++ drop (l .file) (b .file)) (b .text)
@@ -83,17 +70,20 @@ module _ (s : Set) (b : Buffers) where
       (record { table = openedLength (openOf s file) (handed s file) (l .table); work = l .work; file = l .file; text = l .text })
       (openedTable (openOf s file) (handed s file) (b .table)) (b .work) (b .file) (b .text)
 
-  abbrev pub left : Left
+  -- `print`: what the report on the text leaves
+  abbrev left : Left
   left = reportOf (take (l .text) (b .text)) table work file
 
   abbrev pub printed : Buffers
   printed =
       buffersOf l (left .table ++ drop (l .table) (b .table)) (left .work ++ drop (l .work) (b .work)) (left .output ++ drop (l .file) (b .file)) (b .text)
 
-  unfoldable pub TablesAfter : ℕ → Buffers → Type 0
-  TablesAfter k b′ =
-      either (eqb k kind.build) (Built′ b′)
-      (b′ ≡ cond (eqb k kind.testTable) b (cond (eqb k kind.write) written (cond (eqb k kind.openFile) opened printed)))
+  unfoldable pub tablesAfter : ℕ → Buffers
+  tablesAfter k =
+      cond (eqb k kind.build) built
+      (cond (eqb k kind.testTable) b
+      (cond (eqb k kind.write) written
+      (cond (eqb k kind.openFile) opened printed)))
 
 -- ALL
 
@@ -131,15 +121,13 @@ module _ (k : ℕ) (vs : Values) (line : List ℕ) (h : Held) where
   bufferHeld = record { set = h .set; run = h .run; buffers = buffersAfter k vs line b }
 
   -- a command on the table or the file leaves set and run
-  pub record TablesHeld (h′ : Held) : Type 0 where
-    pub set : h′ .set ≡ h .set
-    pub run : h′ .run ≡ h .run
-    pub buffers : TablesAfter (h .set) (h .buffers) k (h′ .buffers)
+  abbrev pub tablesHeld : Held
+  tablesHeld = record { set = h .set; run = h .run; buffers = tablesAfter (h .set) b k }
 
   -- the kinds stand in groups: reset; buffers; set and sheet; table and file; run
-  unfoldable pub CommandAfter : Held → Type 0
-  CommandAfter h′ =
-      either (eqb k kind.reset) (h′ ≡ heldOf noDesk (b .table) (b .work) (b .file) (b .text))
-      (either (leb k kind.text) (h′ ≡ bufferHeld)
-      (either (leb k kind.testSet) (h′ ≡ setHeld)
-      (either (leb k kind.print) (TablesHeld h′) (h′ ≡ runHeld))))
+  unfoldable pub commandAfter : Held
+  commandAfter =
+      cond (eqb k kind.reset) (heldOf noDesk (b .table) (b .work) (b .file) (b .text))
+      (cond (leb k kind.text) bufferHeld
+      (cond (leb k kind.testSet) setHeld
+      (cond (leb k kind.print) tablesHeld runHeld)))

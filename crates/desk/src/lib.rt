@@ -14,7 +14,7 @@ use guard::runs::Run;
 use tasks::sets;
 use tasks::sets::Set;
 ghost use mathlib.Core.Path.{_≡_};
-ghost use Rattle.desk.specs.After.{noDesk, heldOf, CommandAfter};
+ghost use Rattle.desk.specs.After.{noDesk, heldOf, commandAfter};
 
 // What is held beside the bytes of the buffers.
 pub struct Desk {
@@ -51,7 +51,7 @@ pub fn carry_out(
     file: &mut [u8],
     text: &mut [u8],
 ) -> Desk
-    ensures { λ r. ⌜ CommandAfter (c .kind) (c .values) (now (line .entry)) (heldOf d (now (table .entry)) (now (work .entry)) (now (file .entry)) (now (text .entry))) (heldOf r (now (table .exit)) (now (work .exit)) (now (file .exit)) (now (text .exit))) ⌝ }
+    ensures { λ r. ⌜ heldOf r (now (table .exit)) (now (work .exit)) (now (file .exit)) (now (text .exit)) ≡ commandAfter (c .kind) (c .values) (now (line .entry)) (heldOf d (now (table .entry)) (now (work .entry)) (now (file .entry)) (now (text .entry))) ⌝ }
 {
     let mut after = d;
     let set = d.set;

@@ -18,12 +18,14 @@ ghost use mathlib.Core.Path.{_≡_};
 ghost use Prim.Native.Nat.{min};
 ghost use lib.ListN.{length};
 ghost use Rattle.table_file.specs.Open.{openOf, handed};
+ghost use Rattle.reporter.specs.Report.{reportOf};
 ghost use Rattle.desk_buffers.specs.Bytes.{putAt};
 ghost use Rattle.desk_buffers.specs.Buffers.{buffersOf};
-ghost use Rattle.desk.specs.After.{Building, Printing, fileAfter, openedLength, openedTable, TablesAfter};
+ghost use Rattle.desk.specs.After.{builtTable, builtWork, fileAfter, openedLength, openedTable, tablesAfter};
 
 fn build(s: Set, table: &mut [u8], work: &mut [u8])
-    ensures { λ _. ⌜ Building s (now (table .entry)) (now (work .entry)) (now (table .exit)) (now (work .exit)) ⌝ }
+    ensures { λ _. ⌜ now (table .exit) ≡ builtTable s (now (table .entry)) (now (work .entry)) ⌝ }
+    ensures { λ _. ⌜ now (work .exit) ≡ builtWork s (now (table .entry)) (now (work .entry)) ⌝ }
 {
     let built = builder::build(s, table, work);
     match built {
@@ -87,7 +89,9 @@ fn open(s: Set, file: &[u8], n: u32, table: &mut [u8]) -> u32
 
 // The report on the text, with the table and the work buffer, into the file.
 fn print(text: &[u8], table: &mut [u8], work: &mut [u8], file: &mut [u8])
-    ensures { λ _. ⌜ Printing (now (text .entry)) (now (table .entry)) (now (work .entry)) (now (file .entry)) (now (table .exit)) (now (work .exit)) (now (file .exit)) ⌝ }
+    ensures { λ _. ⌜ now (table .exit) ≡ reportOf (now (text .entry)) (now (table .entry)) (now (work .entry)) (now (file .entry)) .table ⌝ }
+    ensures { λ _. ⌜ now (work .exit) ≡ reportOf (now (text .entry)) (now (table .entry)) (now (work .entry)) (now (file .entry)) .work ⌝ }
+    ensures { λ _. ⌜ now (file .exit) ≡ reportOf (now (text .entry)) (now (table .entry)) (now (work .entry)) (now (file .entry)) .output ⌝ }
 {
     let reported = reporter::report(text, table, work, file);
     match reported {
@@ -106,7 +110,7 @@ pub fn carry_out(
     file: &mut [u8],
     text: &[u8],
 ) -> Lengths
-    ensures { λ r. ⌜ TablesAfter s (buffersOf l (now (table .entry)) (now (work .entry)) (now (file .entry)) (now (text .entry))) (c .kind) (buffersOf r (now (table .exit)) (now (work .exit)) (now (file .exit)) (now (text .entry))) ⌝ }
+    ensures { λ r. ⌜ buffersOf r (now (table .exit)) (now (work .exit)) (now (file .exit)) (now (text .entry)) ≡ tablesAfter s (buffersOf l (now (table .entry)) (now (work .entry)) (now (file .entry)) (now (text .entry))) (c .kind) ⌝ }
 {
     let t = bytes::within(l.table, table);
     let w = bytes::within(l.work, work);

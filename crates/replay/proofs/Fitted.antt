@@ -1,6 +1,6 @@
 -- At the beginning, and after any piece of a log, each buffer's length is at most its most.
 use mathlib.Core.Bool.{Bool, true, false, cond}
-use mathlib.Core.List.{List}
+use mathlib.Core.List.{List, [], _∷_}
 use mathlib.Core.Path.{_≡_, refl}
 use Prim.Native.Nat.{ℕ, _+_}
 use native.Mathlib.Omega.{arith}
@@ -10,37 +10,41 @@ use Rattle.commands.specs.declared.lines.Parsed.{Parsed}
 use Rattle.commands.specs.declared.lines.Parsed.the-variants.{Mangled, Taken}
 use Rattle.commands.specs.Lines.{parseOf}
 use Rattle.commands.proofs.Taken.{taken-within}
-use Rattle.desk.specs.After.{either, Held, noLengths}
+use Rattle.desk.specs.After.{Held, noLengths}
 use Rattle.desk.specs.Fitted.{Fitted}
 use Rattle.desk.proofs.Fitted.{command-fitted}
-use Rattle.replay.specs.Log.{LineAfter, Logged, noLog, loggedOf, Ended, lineWith, ByteAfter, Reads, noByte, oneMore}
+use Rattle.replay.specs.Log.{parsedAfter, lineAfter, Logged, noLog, loggedOf, endedLine, lineWith, byteAfter, pieceAfter}
 
 none-fitted : Fitted noLengths
 none-fitted = record { table = omega arith; work = omega arith; file = omega arith; text = omega arith }
 
-pub line-fitted : (line : List ℕ) (h h′ : Held) → LineAfter (parseOf (h .buffers .lengths) line) line h h′ → Fitted (h .buffers .lengths) → Fitted (h′ .buffers .lengths)
-line-fitted line h h′ a f = step (parseOf (h .buffers .lengths) line) refl a
-  where
-    step : (p : Parsed) → parseOf (h .buffers .lengths) line ≡ p → LineAfter p line h h′ → Fitted (h′ .buffers .lengths)
-    step Mangled e a = rw a f
-    step (Taken c) e a = command-fitted c line h h′ (taken-within (h .buffers .lengths) line c e) a f
+abbrev Fits : Held → Type 0
+Fits h = Fitted (h .buffers .lengths)
 
-byte-fitted : (b : ℕ) (g g′ : Logged) → ByteAfter b g g′ → Fitted (g .held .buffers .lengths) → Fitted (g′ .held .buffers .lengths)
-unfolding ByteAfter
-byte-fitted b g g′ a f = step (eqb b 10) a
+pub line-fitted : (line : List ℕ) (h : Held) → Fits h → Fits (lineAfter line h)
+line-fitted line h f = step (parseOf (h .buffers .lengths) line) refl
   where
-    kept : (t : Bool) → Fitted ((cond t (record { held = g .held; line = set (g .line) (g .used) b; used = g .used + 1; lines = g .lines }) g) .held .buffers .lengths)
+    step : (p : Parsed) → parseOf (h .buffers .lengths) line ≡ p → Fits (parsedAfter p line h)
+    step Mangled e = f
+    step (Taken c) e = command-fitted c line h (taken-within (h .buffers .lengths) line c e) f
+
+byte-fitted : (b : ℕ) (g : Logged) → Fits (g .held) → Fits (byteAfter b g .held)
+unfolding byteAfter endedLine
+byte-fitted b g f = step (eqb b 10)
+  where
+    kept : (t : Bool) → Fits ((cond t (record { held = g .held; line = set (g .line) (g .used) b; used = g .used + 1; lines = g .lines }) g) .held)
     kept true = f
     kept false = f
 
-    step : (t : Bool) → either t (Ended g g′) (g′ ≡ lineWith b g) → Fitted (g′ .held .buffers .lengths)
-    step true e = line-fitted (take (g .used) (g .line)) (g .held) (g′ .held) (e .held) f
-    step false e = rw e (kept (ltb (g .used) 256))
+    step : (t : Bool) → Fits ((cond t (endedLine g) (lineWith b g)) .held)
+    step true = line-fitted (take (g .used) (g .line)) (g .held) f
+    step false = kept (ltb (g .used) 256)
 
-pub reads-fitted : (p : List ℕ) (i : ℕ) (g g′ : Logged) → Reads p i g g′ → Fitted (g .held .buffers .lengths) → Fitted (g′ .held .buffers .lengths)
-reads-fitted p i g g′ noByte f = f
-reads-fitted p i g g′ (oneMore {i = j} {g₁ = g₁} r b) f = byte-fitted _ g₁ g′ b (reads-fitted p j g g₁ r f)
+pub piece-fitted : (p : List ℕ) (g : Logged) → Fits (g .held) → Fits (pieceAfter p g .held)
+unfolding pieceAfter
+piece-fitted [] g f = f
+piece-fitted (b ∷ p) g f = piece-fitted p (byteAfter b g) (byte-fitted b g f)
 
 -- from the beginning of a log on
-pub log-fitted : (p : List ℕ) (i : ℕ) (line t w f x : List ℕ) (g : Logged) → Reads p i (loggedOf noLog line t w f x) g → Fitted (g .held .buffers .lengths)
-log-fitted p i line t w f x g r = reads-fitted p i (loggedOf noLog line t w f x) g r none-fitted
+pub log-fitted : (p line t w f x : List ℕ) → Fits (pieceAfter p (loggedOf noLog line t w f x) .held)
+log-fitted p line t w f x = piece-fitted p (loggedOf noLog line t w f x) none-fitted

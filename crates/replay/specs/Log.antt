@@ -1,20 +1,22 @@
 -- What a line, and a piece of the log, leaves of all that is held.
 use mathlib.Core.Bool.{false, cond}
-use mathlib.Core.List.{List}
-use mathlib.Core.Path.{_≡_}
+use mathlib.Core.List.{List, [], _∷_}
 use Prim.Native.Nat.{ℕ, _+_, _%_, _^_}
 use lib.Dec.{eqb, ltb}
-use lib.ListN.{getD, take, set}
+use lib.ListN.{take, set}
 use Rattle.commands.specs.declared.lines.Parsed.{Parsed}
 use Rattle.commands.specs.declared.lines.Parsed.the-variants.{Mangled, Taken}
 use Rattle.commands.specs.Lines.{parseOf}
-use Rattle.desk.specs.After.{either, Held, heldOf, noDesk, CommandAfter}
+use Rattle.desk.specs.After.{Held, heldOf, noDesk, commandAfter}
 use Rattle.replay.specs.declared.Log.{Log}
 
 -- a mangled line changes nothing
-abbrev pub LineAfter : Parsed → List ℕ → Held → Held → Type 0
-LineAfter Mangled line h h′ = h′ ≡ h
-LineAfter (Taken c) line h h′ = CommandAfter (c .kind) (c .values) line h h′
+abbrev pub parsedAfter : Parsed → List ℕ → Held → Held
+parsedAfter Mangled line h = h
+parsedAfter (Taken c) line h = commandAfter (c .kind) (c .values) line h
+
+abbrev pub lineAfter : List ℕ → Held → Held
+lineAfter line h = parsedAfter (parseOf (h .buffers .lengths) line) line h
 
 -- THE LOG, BYTE BY BYTE
 
@@ -33,21 +35,18 @@ abbrev pub noLog : Log
 noLog = record { desk = noDesk; used = 0; lines = 0; ended = false }
 
 -- an LF ends the line
-pub record Ended (g g′ : Logged) : Type 0 where
-  pub held : LineAfter (parseOf (g .held .buffers .lengths) (take (g .used) (g .line))) (take (g .used) (g .line)) (g .held) (g′ .held)
-  pub line : g′ .line ≡ g .line
-  pub used : g′ .used ≡ 0
-  pub lines : g′ .lines ≡ (g .lines + 1) % 2 ^ 64
+unfoldable pub endedLine : Logged → Logged
+endedLine g = record { held = lineAfter (take (g .used) (g .line)) (g .held); line = g .line; used = 0; lines = (g .lines + 1) % 2 ^ 64 }
 
 -- any other byte goes behind those of the line, of which 256 are kept: one more than a line may have
 abbrev pub lineWith : ℕ → Logged → Logged
 lineWith b g =
     cond (ltb (g .used) 256) (record { held = g .held; line = set (g .line) (g .used) b; used = g .used + 1; lines = g .lines }) g
 
-unfoldable pub ByteAfter : ℕ → Logged → Logged → Type 0
-ByteAfter b g g′ = either (eqb b 10) (Ended g g′) (g′ ≡ lineWith b g)
+unfoldable pub byteAfter : ℕ → Logged → Logged
+byteAfter b g = cond (eqb b 10) (endedLine g) (lineWith b g)
 
--- the first i bytes of a piece, one after the other
-pub data Reads (p : List ℕ) : ℕ → Logged → Logged → Type 0 where
-  noByte : {g : Logged} → Reads p 0 g g
-  oneMore : {i : ℕ} {g g₁ g₂ : Logged} → Reads p i g g₁ → ByteAfter (getD p i 0) g₁ g₂ → Reads p (i + 1) g g₂
+-- the bytes of a piece, one after the other
+unfoldable pub pieceAfter : List ℕ → Logged → Logged
+pieceAfter [] g = g
+pieceAfter (b ∷ p) g = pieceAfter p (byteAfter b g)

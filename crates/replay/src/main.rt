@@ -7,10 +7,8 @@ use desk_buffers::bytes;
 use desk_buffers::say;
 use libc::STDIN_FILENO;
 ghost use mathlib.Core.Path.{_≡_};
-ghost use lib.ListN.{length};
-ghost use Rattle.commands.specs.Lines.{parseOf};
 ghost use Rattle.desk.specs.After.{heldOf};
-ghost use Rattle.replay.specs.Log.{LineAfter, noLog, loggedOf, Ended, ByteAfter, Reads};
+ghost use Rattle.replay.specs.Log.{lineAfter, noLog, loggedOf, endedLine, byteAfter, pieceAfter};
 
 // Of a line that is too long, one byte more than a line may have is kept.
 const KEPT: u32 = lines::LONGEST as u32 + 1;
@@ -46,7 +44,7 @@ fn answer(
     file: &mut [u8],
     text: &mut [u8],
 ) -> Desk
-    ensures { λ r. ⌜ LineAfter (parseOf (d .lengths) (now (line .entry))) (now (line .entry)) (heldOf d (now (table .entry)) (now (work .entry)) (now (file .entry)) (now (text .entry))) (heldOf r (now (table .exit)) (now (work .exit)) (now (file .exit)) (now (text .exit))) ⌝ }
+    ensures { λ r. ⌜ heldOf r (now (table .exit)) (now (work .exit)) (now (file .exit)) (now (text .exit)) ≡ lineAfter (now (line .entry)) (heldOf d (now (table .entry)) (now (work .entry)) (now (file .entry)) (now (text .entry))) ⌝ }
 {
     let l = d.lengths;
     let parsed = lines::parse(line, l);
@@ -68,7 +66,7 @@ fn end_line(
     file: &mut [u8],
     text: &mut [u8],
 ) -> Log
-    ensures { λ r. ⌜ Ended (loggedOf g (now (line .entry)) (now (table .entry)) (now (work .entry)) (now (file .entry)) (now (text .entry))) (loggedOf r (now (line .entry)) (now (table .exit)) (now (work .exit)) (now (file .exit)) (now (text .exit))) ⌝ }
+    ensures { λ r. ⌜ loggedOf r (now (line .entry)) (now (table .exit)) (now (work .exit)) (now (file .exit)) (now (text .exit)) ≡ endedLine (loggedOf g (now (line .entry)) (now (table .entry)) (now (work .entry)) (now (file .entry)) (now (text .entry))) ⌝ }
 {
     let number = std::num::wrapping_add_u64(g.lines, 1);
     let d = g.desk;
@@ -92,7 +90,7 @@ fn take_byte(
     file: &mut [u8],
     text: &mut [u8],
 ) -> Log
-    ensures { λ r. ⌜ ByteAfter b (loggedOf g (now (line .entry)) (now (table .entry)) (now (work .entry)) (now (file .entry)) (now (text .entry))) (loggedOf r (now (line .exit)) (now (table .exit)) (now (work .exit)) (now (file .exit)) (now (text .exit))) ⌝ }
+    ensures { λ r. ⌜ loggedOf r (now (line .exit)) (now (table .exit)) (now (work .exit)) (now (file .exit)) (now (text .exit)) ≡ byteAfter b (loggedOf g (now (line .entry)) (now (table .entry)) (now (work .entry)) (now (file .entry)) (now (text .entry))) ⌝ }
 {
     if b == b'\n' {
         return end_line(g, line, table, work, file, text);
@@ -115,7 +113,7 @@ fn take_piece(
     file: &mut [u8],
     text: &mut [u8],
 ) -> Log
-    ensures { λ r. ⌜ Reads (now (piece .entry)) (length (now (piece .entry))) (loggedOf g (now (line .entry)) (now (table .entry)) (now (work .entry)) (now (file .entry)) (now (text .entry))) (loggedOf r (now (line .exit)) (now (table .exit)) (now (work .exit)) (now (file .exit)) (now (text .exit))) ⌝ }
+    ensures { λ r. ⌜ loggedOf r (now (line .exit)) (now (table .exit)) (now (work .exit)) (now (file .exit)) (now (text .exit)) ≡ pieceAfter (now (piece .entry)) (loggedOf g (now (line .entry)) (now (table .entry)) (now (work .entry)) (now (file .entry)) (now (text .entry))) ⌝ }
 {
     let mut next = g;
     let mut i = 0;

@@ -1,19 +1,16 @@
 -- The line so far, and a new one.
-use mathlib.Core.Path.{refl}
+use Rattle.replay.specs.Log.{endedLine}
 use Rattle.desk_buffers.proofs.BytesLaws.{within-take}
 use borrow.Author.Needs.{needs}
 use Rattle.replay.proofs.end_line.Statement.{statement}
 use Rattle.replay.proofs.end_line.Tie as tie
 
 returns : tie.Need-returns
-returns c = let a = c .before .before .before .before .before .before .before .before .before .before .before .before .before .before .before .before .before .before .before .before .before .before .args in
+unfolding endedLine
+returns c =
+    let a = c .before .before .before .before .before .before .before .before .before .before .before .before .before .before .before .before .before .before .before .before .before .before .args in
     let m = c .before .before .before .before .before .before .before .before .before .before .before .before .before .before .within in
-    record {
-      held = rw (← within-take (a .g .used) (m .result) (a .line .now) (m .ensures .0)) (c .before .before .before .before .before .before .before .before .answer .ensures);
-      line = refl;
-      used = refl;
-      lines = c .before .before .before .before .before .before .before .before .before .before .before .before .before .before .before .before .wrapping-add-u64 .ensures;
-    }
+    rw (← within-take (a .g .used) (m .result) (a .line .now) (m .ensures .0), ← c .before .before .before .before .before .before .before .before .answer .ensures, c .before .before .before .before .before .before .before .before .before .before .before .before .before .before .before .before .wrapping-add-u64 .ensures)
 
 pub end-line-spec : {M : Type 1} → statement M
 end-line-spec =
