@@ -89,11 +89,11 @@ opened-fits s file n h = step (openOf s file) refl
         omega (arith, v .long, length-drop (headerLength s) file, passed-valid s (v .set) .states)
     step (Refused r) e = h
 
-tables-fitted : (s : Set) (b : Buffers) (k : ℕ) → Fitted (b .lengths) → Fitted (tablesAfter s b k .lengths)
+tables-fitted : (b : Buffers) (s : Set) (k : ℕ) → Fitted (b .lengths) → Fitted (tablesAfter b s k .lengths)
 unfolding tablesAfter
-tables-fitted s b k f = step (eqb k kind.build) (eqb k kind.testTable) (eqb k kind.write) (eqb k kind.openFile)
+tables-fitted b s k f = step (eqb k kind.build) (eqb k kind.testTable) (eqb k kind.write) (eqb k kind.openFile)
   where
-    step : (t u v x : Bool) → Fitted ((cond t (built s b) (cond u b (cond v (written s b) (cond x (opened s b) (printed s b))))) .lengths)
+    step : (t u v x : Bool) → Fitted ((cond t (built b s) (cond u b (cond v (written b s) (cond x (opened b s) (printed b))))) .lengths)
     step true u v x = f
     step false true v x = f
     step false false true x = f
@@ -116,5 +116,5 @@ command-fitted c line h w f = step (eqb (c .kind) kind.reset) (leb (c .kind) kin
     step true u v x = record { table = omega arith; work = omega arith; file = omega arith; text = omega arith }
     step false true v x = buffers-fitted c line (h .buffers) w f
     step false false true x = f
-    step false false false true = tables-fitted (h .set) (h .buffers) (c .kind) f
+    step false false false true = tables-fitted (h .buffers) (h .set) (c .kind) f
     step false false false false = f

@@ -35,19 +35,19 @@ module _ (s : Set) (k : ℕ) (l : Lengths) (t w f x : List ℕ) where
   before = buffersOf l t w f x
 
   pub build-step : k ≡ kind.build → (mt mw : ℕ) → mt ≡ min (l .table) (length t) → mw ≡ min (l .work) (length w) → (t′ w′ : List ℕ) →
-      t′ ≡ builtTable s (take mt t) (take mw w) → w′ ≡ builtWork s (take mt t) (take mw w) → buffersOf l (t′ ++ drop mt t) (w′ ++ drop mw w) f x ≡ tablesAfter s before k
+      t′ ≡ builtTable s (take mt t) (take mw w) → w′ ≡ builtWork s (take mt t) (take mw w) → buffersOf l (t′ ++ drop mt t) (w′ ++ drop mw w) f x ≡ tablesAfter before s k
   unfolding tablesAfter
   build-step e mt mw ht hw t′ w′ bt bw =
       rw (eq-eqb k kind.build e, bt, bw, within-take (l .table) mt t ht, within-take (l .work) mw w hw, within-drop (l .table) mt t ht, within-drop (l .work) mw w hw)
 
   module _ (n : k ≡ kind.build → ⊥) where
-    pub test-step : k ≡ kind.testTable → before ≡ tablesAfter s before k
+    pub test-step : k ≡ kind.testTable → before ≡ tablesAfter before s k
     unfolding tablesAfter
     test-step e = rw (ne-eqb k kind.build n, eq-eqb k kind.testTable e)
 
     module _ (n′ : k ≡ kind.testTable → ⊥) where
       pub write-step : k ≡ kind.write → (mt mf : ℕ) → mt ≡ min (l .table) (length t) → mf ≡ min (l .file) (length f) → (f′ : List ℕ) →
-          f′ ≡ fileAfter s (take mt t) (take mf f) → buffersOf l t w (f′ ++ drop mf f) x ≡ tablesAfter s before k
+          f′ ≡ fileAfter s (take mt t) (take mf f) → buffersOf l t w (f′ ++ drop mf f) x ≡ tablesAfter before s k
       unfolding tablesAfter
       write-step e mt mf ht hf f′ h =
           rw (ne-eqb k kind.build n, ne-eqb k kind.testTable n′, eq-eqb k kind.write e, h, within-take (l .table) mt t ht, within-take (l .file) mf f hf, within-drop (l .file) mf f hf)
@@ -55,7 +55,7 @@ module _ (s : Set) (k : ℕ) (l : Lengths) (t w f x : List ℕ) where
       module _ (n″ : k ≡ kind.write → ⊥) where
         pub open-step : k ≡ kind.openFile → (mf : ℕ) → mf ≡ min (l .file) (length f) → (m : ℕ) (t′ : List ℕ) →
             m ≡ openedLength (openOf s (take mf f)) (handed s (take mf f)) (l .table) → t′ ≡ openedTable (openOf s (take mf f)) (handed s (take mf f)) t →
-            buffersOf (record { table = m; work = l .work; file = l .file; text = l .text }) t′ w f x ≡ tablesAfter s before k
+            buffersOf (record { table = m; work = l .work; file = l .file; text = l .text }) t′ w f x ≡ tablesAfter before s k
         unfolding tablesAfter
         open-step g mf hf m t′ e h =
             rw (ne-eqb k kind.build n, ne-eqb k kind.testTable n′, ne-eqb k kind.write n″, eq-eqb k kind.openFile g, e, h, within-take (l .file) mf f hf)
@@ -63,7 +63,7 @@ module _ (s : Set) (k : ℕ) (l : Lengths) (t w f x : List ℕ) where
         pub print-step : (k ≡ kind.openFile → ⊥) → (mt mw mf mx : ℕ) →
             mt ≡ min (l .table) (length t) → mw ≡ min (l .work) (length w) → mf ≡ min (l .file) (length f) → mx ≡ min (l .text) (length x) → (t′ w′ f′ : List ℕ) →
             t′ ≡ reportOf (take mx x) (take mt t) (take mw w) (take mf f) .table → w′ ≡ reportOf (take mx x) (take mt t) (take mw w) (take mf f) .work →
-            f′ ≡ reportOf (take mx x) (take mt t) (take mw w) (take mf f) .output → buffersOf l (t′ ++ drop mt t) (w′ ++ drop mw w) (f′ ++ drop mf f) x ≡ tablesAfter s before k
+            f′ ≡ reportOf (take mx x) (take mt t) (take mw w) (take mf f) .output → buffersOf l (t′ ++ drop mt t) (w′ ++ drop mw w) (f′ ++ drop mf f) x ≡ tablesAfter before s k
         unfolding tablesAfter
         print-step g mt mw mf mx ht hw hf hx t′ w′ f′ pt pw pf =
             rw (
@@ -106,7 +106,7 @@ module _ (k : ℕ) (vs : Values) (line : List ℕ) (d : Desk) (t w f x : List �
       set-step e r x′ h h′ = rw (ne-eqb k kind.reset n, lt-leb k kind.text a, le-leb k kind.testSet e, h, h′)
 
       module _ (a′ : kind.testSet < k) where
-        pub tables-step : k ≤ kind.print → (r : Lengths) (t′ w′ f′ : List ℕ) → buffersOf r t′ w′ f′ x ≡ tablesAfter (d .set) (buffersOf (d .lengths) t w f x) k →
+        pub tables-step : k ≤ kind.print → (r : Lengths) (t′ w′ f′ : List ℕ) → buffersOf r t′ w′ f′ x ≡ tablesAfter (buffersOf (d .lengths) t w f x) (d .set) k →
             heldOf (record { set = d .set; run = d .run; lengths = r }) t′ w′ f′ x ≡ commandAfter k vs line held
         unfolding commandAfter
         tables-step e r t′ w′ f′ h =

@@ -45,7 +45,7 @@ openedTable Opens part t = putAt 0 part t
 openedTable (Refused f) part t = t
 
 -- the buffers, lent with their present lengths
-module _ (s : Set) (b : Buffers) where
+module _ (b : Buffers) where
   abbrev l : Lengths
   l = b .lengths
 
@@ -58,32 +58,33 @@ module _ (s : Set) (b : Buffers) where
   abbrev file : List ℕ
   file = take (l .file) (b .file)
 
-  abbrev pub built : Buffers
-  built = buffersOf l (builtTable s table work ++ drop (l .table) (b .table)) (builtWork s table work ++ drop (l .work) (b .work)) (b .file) (b .text)
-
-  abbrev pub written : Buffers
-  written = buffersOf l (b .table) (b .work) (fileAfter s table file ++ drop (l .file) (b .file)) (b .text)
-
-  abbrev pub opened : Buffers
-  opened =
-      buffersOf
-      (record { table = openedLength (openOf s file) (handed s file) (l .table); work = l .work; file = l .file; text = l .text })
-      (openedTable (openOf s file) (handed s file) (b .table)) (b .work) (b .file) (b .text)
-
   -- `print`: what the report on the text leaves
-  abbrev left : Left
-  left = reportOf (take (l .text) (b .text)) table work file
+  abbrev report : Left
+  report = reportOf (take (l .text) (b .text)) table work file
 
   abbrev pub printed : Buffers
   printed =
-      buffersOf l (left .table ++ drop (l .table) (b .table)) (left .work ++ drop (l .work) (b .work)) (left .output ++ drop (l .file) (b .file)) (b .text)
+      buffersOf l (report .table ++ drop (l .table) (b .table)) (report .work ++ drop (l .work) (b .work)) (report .output ++ drop (l .file) (b .file)) (b .text)
 
-  unfoldable pub tablesAfter : ℕ → Buffers
-  tablesAfter k =
-      cond (eqb k kind.build) built
-      (cond (eqb k kind.testTable) b
-      (cond (eqb k kind.write) written
-      (cond (eqb k kind.openFile) opened printed)))
+  module _ (s : Set) where
+    abbrev pub built : Buffers
+    built = buffersOf l (builtTable s table work ++ drop (l .table) (b .table)) (builtWork s table work ++ drop (l .work) (b .work)) (b .file) (b .text)
+
+    abbrev pub written : Buffers
+    written = buffersOf l (b .table) (b .work) (fileAfter s table file ++ drop (l .file) (b .file)) (b .text)
+
+    abbrev pub opened : Buffers
+    opened =
+        buffersOf
+        (record { table = openedLength (openOf s file) (handed s file) (l .table); work = l .work; file = l .file; text = l .text })
+        (openedTable (openOf s file) (handed s file) (b .table)) (b .work) (b .file) (b .text)
+
+    unfoldable pub tablesAfter : ℕ → Buffers
+    tablesAfter k =
+        cond (eqb k kind.build) built
+        (cond (eqb k kind.testTable) b
+        (cond (eqb k kind.write) written
+        (cond (eqb k kind.openFile) opened printed)))
 
 -- ALL
 
@@ -122,7 +123,7 @@ module _ (k : ℕ) (vs : Values) (line : List ℕ) (h : Held) where
 
   -- a command on the table or the file leaves set and run
   abbrev pub tablesHeld : Held
-  tablesHeld = record { set = h .set; run = h .run; buffers = tablesAfter (h .set) b k }
+  tablesHeld = record { set = h .set; run = h .run; buffers = tablesAfter b (h .set) k }
 
   -- the kinds stand in groups: reset; buffers; set and sheet; table and file; run
   unfoldable pub commandAfter : Held

@@ -17,8 +17,8 @@ ghost use Rattle.sheet_reader.specs.Reading.{readText};
 ghost use Rattle.sheet_writer.specs.Writing.{writeOf};
 ghost use Rattle.desk.specs.Steps.{setAfter, textAfter};
 
-// What reading answers, and the set that it returns.
-fn taken(r: SheetRead) -> Set
+// What reading answers is said, and the set is that which it returns.
+fn said(r: SheetRead) -> Set
     ensures { λ s. ⌜ s ≡ r .set ⌝ }
 {
     let answer = r.answer;
@@ -33,14 +33,14 @@ fn taken(r: SheetRead) -> Set
 fn read(text: &[u8]) -> Set
     ensures { λ s. ⌜ s ≡ readText (now (text .entry)) .set ⌝ }
 {
-    taken(sheet::read(text))
+    said(sheet::read(text))
 }
 
 // A reader of the text, at a place: what it reads there.
 fn next(text: &[u8], at: usize) -> Set
     ensures { λ s. ⌜ s ≡ readText (drop at (now (text .entry))) .set ⌝ }
 {
-    taken(sheet::read_from(text, at))
+    said(sheet::read_from(text, at))
 }
 
 // Its place after that.

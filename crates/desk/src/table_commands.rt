@@ -110,7 +110,7 @@ pub fn carry_out(
     file: &mut [u8],
     text: &[u8],
 ) -> Lengths
-    ensures { λ r. ⌜ buffersOf r (now (table .exit)) (now (work .exit)) (now (file .exit)) (now (text .entry)) ≡ tablesAfter s (buffersOf l (now (table .entry)) (now (work .entry)) (now (file .entry)) (now (text .entry))) (c .kind) ⌝ }
+    ensures { λ r. ⌜ buffersOf r (now (table .exit)) (now (work .exit)) (now (file .exit)) (now (text .entry)) ≡ tablesAfter (buffersOf l (now (table .entry)) (now (work .entry)) (now (file .entry)) (now (text .entry))) s (c .kind) ⌝ }
 {
     let t = bytes::within(l.table, table);
     let w = bytes::within(l.work, work);

@@ -1,5 +1,5 @@
-pub mod Apart
 pub mod OnText
+pub mod Apart
 pub mod Begun
 pub mod RoundTrips
 pub mod Numbers

@@ -1,4 +1,4 @@
-// Sheets: a reader that holds the text and its place, and the plain functions that every other caller uses.
+// Sheets: a reader that holds the text and its place, the plain functions over it, and the writer.
 use sheet_reader::SheetRead;
 use sheet_writer::Wrote;
 use tasks::sets::Set;
@@ -21,7 +21,7 @@ pub fn begin<'a>(text: &'a [u8], at: usize) -> Reader<'a>
     Reader { text, at }
 }
 
-// All that stands from a reader's place to the end of its text, read as one sheet; a refusal's place counts from the reader's.
+// All that stands from a reader's place to the end of its text, read as one sheet; the place of a form fault counts from the reader's.
 pub fn next<'a>(r: Reader<'a>) -> SheetRead
     ensures { λ s. ⌜ s ≡ readText (drop (r .entry .at) (now (r .entry .text))) ⌝ }
 {

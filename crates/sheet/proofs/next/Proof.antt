@@ -35,7 +35,8 @@ use Rattle.sheet_reader.specs.Reading.{readText}
 use Rattle.sheet.specs.declared.Reader.{Reader}
 use Rattle.sheet_reader.specs.declared.SheetRead.{SheetRead}
 use Rattle.sheet.proofs.Reader.Laws as T′
-use Rattle.sheet.proofs.Apart.{mach, passed, Own, Asks, Has, apart, stayed, met-by}
+use Rattle.sheet.proofs.Apart.{mach, Own, Asks, Has, apart, stayed, met-by}
+use Rattle.sheet.proofs.OnText.{passed}
 use Rattle.sheet_reader.proofs.SheetRead as S
 use Rattle.sheet_reader.proofs.SheetRead.Laws as S′
 use Rattle.sheet_reader.proofs.read_at as step
@@ -60,7 +61,7 @@ module _ {M : Type 1} (𝓤 : URA M) (H : Heap 𝓤) (A : Atoms 𝓤) (W : Given
   Post = walkOf 𝓤 H A next.ended (stayed (next.signature .result)) (next.clauses 𝓤 H A mem run) .post (((κ, tt), (q, tt), tt, (d, tt), (mach d ∷ [], tt)), tt)
 
   abbrev to : StepAt 𝓤 H A mem run .Ghost
-  to = (((κ, tt), (q, tt), tt, (d .text, (d .at, tt)), passed d), tt)
+  to = (((κ, tt), (q, tt), tt, (d .text, (d .at, tt)), passed (d .text) (d .at)), tt)
 
   -- what the struct owns gives what the callee asks, and is kept
   asked : d .at < 2 ^ 64 → ent 𝓤 (⋆ 𝓤 H A (Has 𝓤 H A W κ q d)) (sep 𝓤 (StepAt 𝓤 H A mem run .pre to) (sem 𝓤 H A (Own d κ)))

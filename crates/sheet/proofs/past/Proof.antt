@@ -37,7 +37,8 @@ use lib.ListN.{drop as dropped}
 use Rattle.sheet_reader.specs.Reading.{reachText}
 use Rattle.sheet.specs.declared.Reader.{Reader}
 use Rattle.sheet.proofs.Reader.Laws as T′
-use Rattle.sheet.proofs.Apart.{D, L, mach, fields, passed, Own, twice, Asks, Has, apart, stayed, met-by}
+use Rattle.sheet.proofs.Apart.{D, L, mach, fields, Own, twice, Asks, Has, apart, stayed, met-by}
+use Rattle.sheet.proofs.OnText.{passed}
 use Rattle.sheet_reader.proofs.place_after as step
 use Rattle.sheet_reader.proofs.place_after.Symbol as step-def
 use Rattle.sheet_reader.proofs.place_after.Symbol.{name as #sheet-reader·place-after}
@@ -64,7 +65,7 @@ module _ {M : Type 1} (𝓤 : URA M) (H : Heap 𝓤) (A : Atoms 𝓤) (W : Given
   Post = walkOf 𝓤 H A past.ended (stayed (past.signature .result)) (past.clauses 𝓤 H A mem run) .post (((κ, tt), (q, tt), tt, (d, tt), (mach d ∷ [], tt)), tt)
 
   abbrev to : PlaceAfter 𝓤 H A mem run .Ghost
-  to = (((κ, tt), (q, tt), tt, (d .text, (d .at, tt)), passed d), tt)
+  to = (((κ, tt), (q, tt), tt, (d .text, (d .at, tt)), passed (d .text) (d .at)), tt)
 
   -- what the struct owns gives what the callee asks, and is kept
   asked : d .at < 2 ^ 64 → ent 𝓤 (⋆ 𝓤 H A (Has 𝓤 H A W κ q d)) (sep 𝓤 (PlaceAfter 𝓤 H A mem run .pre to) (sem 𝓤 H A (Own d κ)))

@@ -24,7 +24,7 @@ use denote.RattleType.{owns}
 use denote.Laws.{Is, shows}
 use denote.Plain.{uint-makes}
 use denote.Builtin.{u8, usize}
-use denote.Ref.{RefT, NamedLft, now}
+use denote.Ref.{RefT, now}
 use denote.Slice.{ShrSlice, shr-slice-lawful}
 use denote.Steps.{only, owned, peeks, heard}
 use denote.Struct.Laws as LL
@@ -41,7 +41,7 @@ use Rattle.sheet.proofs.Reader as T
 use Rattle.sheet.proofs.Reader.Laws as T′
 use Rattle.sheet.proofs.Apart.{ReaderT, D, L}
 use Rattle.sheet.proofs.OnText.{stayed, value, passed, Text, Both, both}
-use Rattle.sheet.proofs.Begun.{Begin, to-begin, goes-begin, begin-said, goes-on, met-by}
+use Rattle.sheet.proofs.Begun.{in-a-local, Begin, to-begin, goes-begin, begin-said, goes-on, met-by}
 use Rattle.sheet.proofs.begin as begin
 use Rattle.sheet.proofs.begin.Symbol.{name as #sheet·begin}
 use Rattle.sheet.proofs.past as past
@@ -61,10 +61,6 @@ module _ {M : Type 1} (𝓤 : URA M) (H : Heap 𝓤) (A : Atoms 𝓤) (W : Given
   abbrev Found : ℕ → Type 0
   Found m = m ≡ n + reachText (dropped n (now s))
 
-  -- the struct's type as a local of a body has it
-  abbrev αᵉ : NamedLft
-  αᵉ = record { mir = erased; lft = κ }
-
   abbrev Post : Val → SProp 𝓤
   Post = walkOf 𝓤 H A place-after.ended (stayed (place-after.signature .result)) (place-after.clauses 𝓤 H A mem run) .post (((κ, tt), (q, tt), tt, (s, (n, tt)), passed s n), tt)
 
@@ -74,7 +70,7 @@ module _ {M : Type 1} (𝓤 : URA M) (H : Heap 𝓤) (A : Atoms 𝓤) (W : Given
 
   goes-past : (r : Reader) (u : Val) → ent 𝓤 (⋆ 𝓤 H A (‵ (ReaderT (κ, tt) .own r (u ∷ [])) ∷ (‵ (flft κ q) ⊛ ‵ ftrue) ∷ [])) (Past 𝓤 H A mem run .pre (to-past r u))
   goes-past r u =
-      goes-on 𝓤 H A W mem run κ q s n r u (Past 𝓤 H A mem run .pre (to-past r u))
+      goes-on 𝓤 H A W κ q r u (Past 𝓤 H A mem run .pre (to-past r u))
       (qed W ((‵ (flft κ q) ⊛ ‵ ftrue) ∷ ‵ (owns (ReaderT (κ, tt) ∷ []) (r, tt) (u ∷ [], tt)) ∷ []) ∵ join ! $ frame ! $ done !)
 
   abbrev Moved : Reader → Reader → Type 0
@@ -101,14 +97,14 @@ module _ {M : Type 1} (𝓤 : URA M) (H : Heap 𝓤) (A : Atoms 𝓤) (W : Given
         split ! $ move ! (1 ∷ []) $ use1 W (raw (fact 𝓤 ((r .text ≡ s) × (r .at ≡ n)))) (begin-said 𝓤 H A W mem run κ q s n r) $ heard ! ((r .text ≡ s) × (r .at ≡ n)) (λ e. split ! $ move ! (1 ∷ []) $
         -- [what the struct owns; the token; what the text owns; room for _4; …; room for _3; …; _2; …; _1; …; room for _0; …]
         peeks ! (ReaderT (κ, tt)) (Is (ReaderT (κ, tt))) (shows 𝓤 H A (ReaderT (κ, tt))) r (u ∷ []) (λ is.
-        land ! (from ! (stop !)) (init ! 3 refl (LL.lawful (T.the-type αᵉ) (T′.the-laws αᵉ) 𝓤 H A W .typed r _ is .0)) $
+        land ! (from ! (stop !)) (init ! 3 refl (LL.lawful (T.the-type (in-a-local κ)) (T′.the-laws (in-a-local κ)) 𝓤 H A W .typed r _ is .0)) $
         use2 W (raw (Past 𝓤 H A mem run .pre (to-past r u))) (goes-past r u) $
         calls-at ! fm (Past 𝓤 H A mem run) known-past (to-past r u) (and-then ! (load ! (from ! (stop !)) (look ! 2 refl)) (no-more !)) (λ u′.
         use1 W (later (some (λ (r′ : Reader). ((‵ (flft κ q) ⊛ ‵ ftrue) ⊛ ‵ (ReaderT (κ, tt) .own r′ (u′ ∷ []))) ⊛ raw (ensured 𝓤 H A past.ended (past.clauses 𝓤 H A mem run) (κ, tt) (r, tt) tt r′)))) (id⊢ 𝓤 _) $ await ! tt $ pick ! (λ r′.
         split ! $ move ! (1 ∷ []) $ use1 W (raw (fact 𝓤 (Moved r r′))) (past-said r r′) $ heard ! (Moved r r′) (λ e′. split ! $ move ! (1 ∷ []) $
         -- [what the struct owns; the token; what the text owns; _4; …; room for _3; …; _2; …; _1; …; room for _0; …]
         peeks ! (ReaderT (κ, tt)) (Is (ReaderT (κ, tt))) (shows 𝓤 H A (ReaderT (κ, tt))) r′ (u′ ∷ []) (λ is′. drop ! $
-        land ! (from ! (stop !)) (init ! 4 refl (LL.lawful (T.the-type αᵉ) (T′.the-laws αᵉ) 𝓤 H A W .typed r′ _ is′ .0)) $
+        land ! (from ! (stop !)) (init ! 4 refl (LL.lawful (T.the-type (in-a-local κ)) (T′.the-laws (in-a-local κ)) 𝓤 H A W .typed r′ _ is′ .0)) $
         rewrite ! 4 (λ (w : Val). ‵ (fat fullShare (T′.mir erased) l₃ 0 w)) (ap only (LL.tells (D (κ, tt)) (L (κ, tt)) r′ _ is′)) refl $
         assigns ! (of-opd ! (load ! (from ! (fld ! refl (stop !))) (look-in ! 4 (sub ! 1 refl (whole !))))) (from ! (stop !)) (init ! 10 refl (tt, record { fits = is′ .1 .1 .1 .0 .1 })) $
         returns ! (look ! 10 refl) $ forget ! 2 refl $ forget ! 4 refl $ forget ! 6 refl $ forget ! 8 refl $ forget ! 10 refl $

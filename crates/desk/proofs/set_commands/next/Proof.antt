@@ -5,7 +5,7 @@ use Rattle.desk.proofs.set_commands.next.Statement.{statement}
 use Rattle.desk.proofs.set_commands.next.Tie as tie
 
 returns : tie.Need-returns
-returns c = c .taken .ensures ∙ ap (λ x. x .set) (c .before .read-from .ensures)
+returns c = c .said .ensures ∙ ap (λ x. x .set) (c .before .read-from .ensures)
 
 pub next-spec : {M : Type 1} → statement M
 next-spec =

@@ -5,7 +5,7 @@ use Rattle.desk.proofs.set_commands.read.Statement.{statement}
 use Rattle.desk.proofs.set_commands.read.Tie as tie
 
 returns : tie.Need-returns
-returns c = c .taken .ensures ∙ ap (λ x. x .set) (c .before .read .ensures)
+returns c = c .said .ensures ∙ ap (λ x. x .set) (c .before .read .ensures)
 
 pub read-spec : {M : Type 1} → statement M
 read-spec =
