@@ -121,7 +121,7 @@ class Maker(Tables, Sheets, Runs):
             self.say("build")
             self.say("sum", "table")
             self.say("sum", "work")
-            self.pick([self.act_build, self.act_sheet_back,
+            self.pick([self.act_build, self.act_sheet_back, self.act_print,
                        self.act_without_table])()
 
     def act_without_table(self):
@@ -163,6 +163,8 @@ class Maker(Tables, Sheets, Runs):
         self.say("test", "table")
         self.act_damage_one()
         self.act_file()
+        self.act_print()
+        self.restore()
         self.act_guarded_run()
 
     def make(self):

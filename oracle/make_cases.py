@@ -42,7 +42,8 @@ def build(states, extra=0, byte=170):
             "build", "sum table", "sum work"]
 
 
-PAIR = sheet("set PAIR", "hard 2 1 2", "hard 2 1 2")
+PAIR_SHEET = b"set PAIR\nhard 2 1 2\nhard 2 1 2\n"
+PAIR = read(PAIR_SHEET)
 PAIR_TABLE = table_of(6, 5, 2, 5, 3, 1, 2, 1, 4, 4, 0, 4, 3, 1, 2, 1)
 PAIR_FILE = PAIR + PAIR_TABLE + ["fill file 54 0", "write"]
 
@@ -208,19 +209,32 @@ def readers():
         for text in (good, good[:-1], good + b"x", good[:4], b"", b"set A\nhard 2 3 3\n",
                      b"set A\nhard 2 2,1 2\n"):
             at = len(before)
-            yield (enter(before + text)
-                   + ["past %d" % at, "next %d" % at, "show set", "past 0", "next 0"])
+            yield (PAIR + enter(before + text)
+                   + ["past %d" % at, "show set", "sum text", "next %d" % at,
+                      "show set", "past 0", "next 0"])
+    # At places of its own, of the end, and beyond it.
     yield enter(good) + [command % at for at in (1, 16, 17, 18, 65535)
                          for command in ("past %d", "next %d")]
-    # 1,025 bytes and 1,024 are left.
+    # More than 1,024 bytes are left before place 176, and no more from it on.
     for at in (0, 1, 175, 176, 1199, 1200):
         yield ["fill text 1200 115", "past %d" % at, "next %d" % at]
+    yield (["fill text 1100 120", "text " + PAIR_SHEET.hex()]
+           + [command % at for at in (1100, 106, 107)
+              for command in ("past %d", "next %d")])
+    # A form that is right, with 1,024 bytes left and with 1,025.
+    ones = b"set AB\nhard 1 " + b"1," * 503 + b"1 1\n"
+    yield enter(b"z" + ones) + ["past 1", "next 1", "past 0", "read"]
+    # 5 and 6 at a place.
+    for text in (b"set A\nhard 3 3 2\n", b"set A\n" + b"hard 16 16 16\n" * 2):
+        yield enter(b"z" + text) + ["past 1", "next 1", "show set"]
 
 
 def reports():
     """The report on a sheet, with what it leaves of the buffers."""
-    left = ["sum text", "sum table", "sum work", "sum file", "show set"]
-    pair = b"set PAIR\nhard 2 1 2\nhard 2 1 2\n"
+    left = ["sum text", "sum table", "sum work", "sum file", "show set",
+            "show run"]
+    held = tasks("soft 3 1,2 3", "hard 1 1 2") + ["start 77"]
+    pair = PAIR_SHEET
     for text, table, work, output in (
             (pair, 16, 16, 390), (pair, 20, 17, 400), (pair, 16, 16, 389),
             (pair, 0, 0, 0), (pair, 15, 16, 390), (pair, 16, 15, 390),
@@ -228,10 +242,14 @@ def reports():
             (b"set A\nhard 2 1,2 2\nhard 2 1 2\n", 30, 30, 390),
             (b"set SWEEP\nhard 2 1 2\nhard 3 1 4\nsoft 1 1 1\n", 64, 64, 390),
             (b"set SIXTEEN-LETTERS-\nhard 2 1 3\nsoft 3 2 4\n", 72, 72, 390),
+            (b"set EXAMPLE-1\nhard 2 1 3\nsoft 2 1,2 3\n", 60, 55, 390),
+            (b"set ONE\nhard 1 1 1\n", 5, 2, 390),
             (b"set A\nhard 2 3 3\n", 9, 9, 390),
+            (b"set A\nhard 2 2,1 2\n", 9, 9, 390),
+            (b"set A\nhard 3 3 2\n", 9, 9, 390),
             (b"set A\n" + b"soft 1 1 1\n" * 7, 128, 128, 500),
             (b"set A\nhard 16 16 16\nhard 13 13 16\n", 9, 9, 390)):
-        yield (enter(text) + ["fill table %d 9" % table, "fill work %d 8" % work,
+        yield (held + enter(text) + ["fill table %d 9" % table, "fill work %d 8" % work,
                               "fill file %d 7" % output, "print"] + left)
     yield ["fill text 1025 65", "fill table 9 9", "fill work 9 9",
            "fill file 390 7", "print"] + left

@@ -117,10 +117,13 @@ class Sheets(Base):
             text = sheets.sheet_text(self.set)
             if self.chance(40):
                 text = self.pick([self.bent_sheet, self.bent_bytes])(text)
-            before = bytes(self.pick(SHEET_BYTES) for _ in range(self.below(6)))
+            before = bytes(self.pick(SHEET_BYTES) for _ in
+                           range(self.pick([0, 1, self.below(6), self.below(900)])))
             self.enter_text((before + text)[:1200])
             for at in (len(before), self.pick([0, len(before) + self.below(8)])):
                 self.say("past", at)
+                if self.chance(50):
+                    self.say("show", "set")
                 self.say("next", at)
             self.say("show", "set")
         length = self.pick([1024, 1025, 1100, 1200])

@@ -61,14 +61,14 @@ WAYS = [put, take, change, word, word, more, fewer, long]
 
 def mangle(seed, count):
     r = random.Random(seed)
-    base = [line for line in batch.batch().split(b"\n")
-            if line not in SLOW and len(line) <= LONGEST]
+    base = [line for line in batch.batch().split(b"\n") if len(line) <= LONGEST]
     lines = []
-    for _ in range(count):
+    while len(lines) < count:
         line = r.choice(base)
         for _ in range(r.choice([0, 1, 1, 1, 2, 3])):
             line = r.choice(WAYS)(line, r)
-        lines.append(line)
+        if line not in SLOW:
+            lines.append(line)
     return b"\n".join(lines) + b"\n"
 
 

@@ -3,7 +3,8 @@
 Document 01, "Numbers of refusal": a number from 1 to 21 and a place.
 Every function of the oracle either answers or raises this. Sets and
 runs are values that are never altered, and a lent buffer is written to
-only after the last test, so a refused call leaves everything as it was.
+only after the last test, so a refused call leaves everything as it was;
+only 8 clears table and work.
 """
 
 

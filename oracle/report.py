@@ -14,7 +14,7 @@ from sets import MOST_STATES, test_set
 from sheets import MOST_BYTES, read_sheet
 from shield import build
 
-ROOM = 42 + 36 + 8 * 39  # a set line, a shield line and eight rows, each at its longest
+ROOM = 42 + 36 + 8 * 39  # a set line, a shield line and eight rows fit in it
 
 
 def lines_with(sheet, table, work):
@@ -41,8 +41,8 @@ def report_text(sheet):
 
 
 def report(sheet, table, work, output):
-    """The length of the report, which goes to the output; refusal 7 with the
-    length of the longest, if the output is shorter than that."""
+    """The length of the report, which goes to the output; refusal 7 if that
+    has not the length that every report fits in."""
     if len(output) < ROOM:
         raise Refused(7, ROOM)
     text = lines_with(sheet, table, work).encode("ascii")

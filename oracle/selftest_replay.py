@@ -6,9 +6,12 @@ import batch
 import make_lines
 import make
 import replay
+import report
 import runs
 import sets
-from selftest_base import same
+import sheets
+from refusal import Refused
+from selftest_base import answer, refused, same
 
 HERE = os.path.dirname(os.path.abspath(__file__))
 
@@ -156,4 +159,38 @@ def stored_batch():
          [a for a in expected[batch.COUNT + len(lines):] if a.startswith("?")], [])
 
 
-PARTS = [mangled_lines, document_example, batches, stored_batch]
+def readers():
+    """A reader's place, against what a read from there answers, and by hand."""
+    a_sheet = b"set A\nhard 1 1 1\n"
+    for text in (b"", a_sheet, b"set B\n" + a_sheet, b"x" + a_sheet[:-1],
+                 b"set A\nhard 2 2,1 2\n", b"set A\n" + b"hard 16 16 16\n" * 2,
+                 b"s" * 1100):
+        for at in list(range(30)) + [75, 76, 1099, 1100, 1101, 65535]:
+            try:
+                sheets.read_sheet(text[at:])
+                place = len(text)
+            except Refused as refusal:
+                place = {1: at, 2: at + refusal.place}.get(refusal.number, len(text))
+            same("place %d of %r" % (at, text[:20]),
+                 sheets.place_after(text, at), place)
+    for text, at, place in ((b"x" + a_sheet, 1, 18), (b"x" + a_sheet, 0, 0),
+                            (b"set B\n" + a_sheet, 0, 7), (b"set B\n" + a_sheet, 6, 23),
+                            (b"set B\n" + a_sheet, 24, 24), (b"s" * 1025, 0, 0),
+                            (b"s" * 1025, 1, 2)):
+        same("place by hand", sheets.place_after(text, at), place)
+
+
+def reports():
+    """The report into buffers: PAIR's, one refused, and one in its line."""
+    pair = b"set PAIR\nhard 2 1 2\nhard 2 1 2\n"
+    table, work, output = bytearray(b"t" * 18), bytearray(b"w" * 17), bytearray(b"o" * 392)
+    same("report's length", report.report(pair, table, work, output), 98)
+    same("report's table", table.hex(), "06050205030102010404000403010201" + "74" * 2)
+    same("report's work", bytes(work), bytes(16) + b"w")
+    same("beyond the report", bytes(output[97:]), b"\n" + b"o" * 294)
+    same("refused", answer(report.report, pair, table, work, bytearray(389)), refused(7, 390))
+    same("in its line", report.report(pair, bytearray(15), work, output), 13)
+    same("the line", bytes(output[:13]), b"refused 7 16\n")
+
+
+PARTS = [mangled_lines, readers, reports, document_example, batches, stored_batch]
