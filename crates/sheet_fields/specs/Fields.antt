@@ -24,13 +24,15 @@ enderOf m = cond (eqb m inGaps) 10 32
 abbrev pub endedTask : State → Task
 endedTask s = record { kind = s .kind; deadline = s .deadline; runs = s .runs; gaps = pushOf (s .last) (s .bits) (s .at) .bits }
 
+-- a field begins: no number of it is read, and no list is begun
+abbrev pub begun : State → ℕ → ℕ → ℕ → State
+begun s m d l = record { mode = m; at = 0; last = 0; bits = 0; kind = s .kind; deadline = d; runs = l; count = s .count }
+
 -- the number read ends a field
 unfoldable pub closedOf : State → State
 closedOf s =
-    cond (eqb (s .mode) inDeadline)
-    (record { mode = inRuns; at = 0; last = s .last; bits = s .bits; kind = s .kind; deadline = s .at; runs = s .runs; count = s .count })
-    (cond (eqb (s .mode) inRuns)
-    (record { mode = inGaps; at = 0; last = 0; bits = 0; kind = s .kind; deadline = s .deadline; runs = pushOf (s .last) (s .bits) (s .at) .bits; count = s .count })
+    cond (eqb (s .mode) inDeadline) (begun s inRuns (s .at) (s .runs))
+    (cond (eqb (s .mode) inRuns) (begun s inGaps (s .deadline) (pushOf (s .last) (s .bits) (s .at) .bits))
     (cond (ltb (s .count) 7) (record { mode = atLine; at = 0; last = 0; bits = 0; kind = 0; deadline = 0; runs = 0; count = s .count + 1 })
     (blankOf atFault)))
 
