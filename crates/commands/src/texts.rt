@@ -16,7 +16,7 @@ pub(crate) fn find(text: &[u8], from: usize, mark: u8) -> usize
 }
 
 // Whether two texts are the same, byte for byte.
-pub fn same(a: &[u8], b: &[u8]) -> bool
+pub(crate) fn same(a: &[u8], b: &[u8]) -> bool
     ensures { λ r. ⌜ r ≡ Texts·same (now (a .entry)) (now (b .entry)) ⌝ }
 {
     if a.len() != b.len() {

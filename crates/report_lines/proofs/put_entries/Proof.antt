@@ -24,23 +24,8 @@ abbrev μ-loop : tie.MeasureT-loop
 loop-holds : tie.Need-loop-holds Inv-loop μ-loop
 loop-holds c = (omega arith, puts-none _ _)
 
-slice-aggregate-put-field : tie.Need-slice-aggregate-put-field Inv-loop μ-loop
-slice-aggregate-put-field c = search needs
-
-shared-slice-read-put-field : tie.Need-shared-slice-read-put-field Inv-loop μ-loop
-shared-slice-read-put-field c = omega arith
-
 cast-put-field : tie.Need-cast-put-field Inv-loop μ-loop
 cast-put-field c = omega (arith, c .shared-slice-known2 .given (c .before .before .before .before .loop .i))
-
-put-field-requires : tie.Need-put-field-requires Inv-loop μ-loop
-put-field-requires c κs = search needs
-
-add-i : tie.Need-add-i Inv-loop μ-loop
-add-i c = omega arith
-
-loop-less : tie.Need-loop-less Inv-loop μ-loop
-loop-less c = omega arith
 
 loop-again : tie.Need-loop-again Inv-loop μ-loop
 loop-again c =
@@ -65,12 +50,12 @@ put-entries-spec =
     Inv-loop
     μ-loop
     loop-holds
-    slice-aggregate-put-field
-    shared-slice-read-put-field
+    (λ c. search needs)
+    (λ c. omega arith)
     cast-put-field
-    put-field-requires
-    add-i
-    loop-less
+    (λ c κs. search needs)
+    (λ c. omega arith)
+    (λ c. omega arith)
     loop-again
     same-length
     returns)

@@ -4,11 +4,8 @@ use borrow.Author.Needs.{needs}
 use Rattle.sheet_fields.proofs.fields.comma.Statement.{statement}
 use Rattle.sheet_fields.proofs.fields.comma.Tie as tie
 
-push-requires : tie.Need-push-requires
-push-requires c κs = search needs
-
 returns : tie.Need-returns
 returns c = rw (c .push .ensures) refl
 
 pub comma-spec : {M : Type 1} → statement M
-comma-spec = tie.close (tie.spec push-requires returns)
+comma-spec = tie.close (tie.spec (λ c κs. search needs) returns)
