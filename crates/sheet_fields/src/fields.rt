@@ -14,6 +14,9 @@ pub struct Kept {
 
 const BROKEN: Kept = Kept { last: 17, bits: 0 };
 
+// No list begun.
+const NO_LIST: Kept = Kept { last: 0, bits: 0 };
+
 // The number v with one digit more; 0 where the byte is none or the number leaves 1 to 16.
 fn more_digit(v: u8, b: u8) -> u8
     ensures { λ r. ⌜ r ≡ digit v b ⌝ }
@@ -71,15 +74,15 @@ pub fn ended_task(s: State) -> Task
     }
 }
 
-// A field begins: no number of it is read, and no list is begun.
-fn begin(s: State, mode: u8, deadline: u8, runs: u16) -> State
-    ensures { λ r. ⌜ r ≡ begun s mode deadline runs ⌝ }
+// A number begins: the list before it in its field, the task's deadline and run times.
+fn begin(s: State, mode: u8, list: Kept, deadline: u8, runs: u16) -> State
+    ensures { λ r. ⌜ r ≡ begun s mode list deadline runs ⌝ }
 {
     State {
         mode,
         at: 0,
-        last: 0,
-        bits: 0,
+        last: list.last,
+        bits: list.bits,
         kind: s.kind,
         deadline,
         runs,
@@ -93,11 +96,15 @@ fn closed(s: State) -> State
     ensures { λ r. ⌜ r ≡ closedOf s ⌝ }
 {
     if s.mode == state::DEADLINE {
-        return begin(s, state::RUNS, s.at, s.runs);
+        let list = Kept {
+            last: s.last,
+            bits: s.bits,
+        };
+        return begin(s, state::RUNS, list, s.at, s.runs);
     }
     if s.mode == state::RUNS {
-        let k = push(s.last, s.bits, s.at);
-        return begin(s, state::GAPS, s.deadline, k.bits);
+        let runs = push(s.last, s.bits, s.at);
+        return begin(s, state::GAPS, NO_LIST, s.deadline, runs.bits);
     }
     if 7 <= s.count {
         return state::blank(state::FAULT);
@@ -118,17 +125,8 @@ fn closed(s: State) -> State
 fn comma(s: State) -> State
     ensures { λ r. ⌜ r ≡ commaOf s ⌝ }
 {
-    let k = push(s.last, s.bits, s.at);
-    State {
-        mode: s.mode,
-        at: 0,
-        last: k.last,
-        bits: k.bits,
-        kind: s.kind,
-        deadline: s.deadline,
-        runs: s.runs,
-        count: s.count,
-    }
+    let list = push(s.last, s.bits, s.at);
+    begin(s, s.mode, list, s.deadline, s.runs)
 }
 
 // One byte in a number or a list.
