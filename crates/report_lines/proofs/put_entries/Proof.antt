@@ -11,7 +11,8 @@ use Rattle.sheet_form.specs.Form.{each}
 use Rattle.sheet_form.proofs.Tests.{each-snoc}
 use Rattle.texts.specs.Puts.{Puts}
 use Rattle.texts.proofs.PutLaws.{puts-none, puts-length, puts-then, puts-as}
-use Rattle.report_lines.specs.Lines.{bytes, field}
+use Rattle.texts.specs.Texts.{bytes}
+use Rattle.report_lines.specs.Lines.{field}
 use Rattle.report_lines.proofs.put_entries.Statement.{statement}
 use Rattle.report_lines.proofs.put_entries.Tie as tie
 
