@@ -9,7 +9,8 @@ use Rattle.commands.specs.declared.numbers.Found.{Found}
 use Rattle.commands.specs.declared.numbers.Found.the-variants.{Nothing, Value}
 use Rattle.commands.specs.declared.lines.Tried.{Tried}
 use Rattle.commands.specs.declared.lines.Tried.the-variants.{Unfit, Fits}
-use Rattle.commands.specs.Texts.{before, parts}
+use Rattle.bytes.specs.Bytes.{indexOf}
+use Rattle.commands.specs.Texts.{parts}
 use Rattle.commands.specs.Forms.{valueOf, kept, noValues}
 use Rattle.commands.specs.declared.lines.Parsed.{Parsed}
 use Rattle.commands.specs.declared.lines.Parsed.the-variants.{Mangled, Taken}
@@ -40,12 +41,10 @@ many l vs place line = rw (some-part 32 line)
 
 -- a row from `from` on and a line from `at` on
 pub record Split (row line : List ℕ) (from at stop end : ℕ) : Type 0 where
-  pub form : stop ≡ from + length (before 32 (drop from row))
-  pub word : end ≡ at + length (before 32 (drop at line))
+  pub form : stop ≡ from + indexOf 32 (drop from row)
+  pub word : end ≡ at + indexOf 32 (drop at line)
   pub inRow : from ≤ length row
   pub inLine : at ≤ length line
-  pub rowHas : stop ≤ length row
-  pub lineHas : end ≤ length line
 
 -- x is the value of the word, and next the values with it
 module _ (l : Lengths) (vs : Values) (place : ℕ) (row line : List ℕ) (from at stop end : ℕ) (s : Split row line from at stop end)
@@ -77,7 +76,7 @@ module _ (l : Lengths) (vs : Values) (place : ℕ) (row line : List ℕ) (from a
         (h ∙ rw keeps (sym (a-value l vs place _ _ _ _ v (sym found ∙ e))))
 
 -- a row of the page from `from` on, which ends at `stop`; x is what the line says by it
-module _ (l : Lengths) (kind : ℕ) (page line : List ℕ) (from stop : ℕ) (found : stop ≡ from + length (before 10 (drop from page)))
+module _ (l : Lengths) (kind : ℕ) (page line : List ℕ) (from stop : ℕ) (found : stop ≡ from + indexOf 10 (drop from page))
     (x : Tried) (tried : x ≡ fit l noValues 0 (parts 32 (take (stop - from) (drop from page))) (parts 32 line)) where
   pub row-fits : (vs : Values) → x ≡ Fits vs → fitRows l kind (parts 10 (drop from page)) (parts 32 line) ≡ Taken (record { kind = kind; values = vs })
   unfolding fitRows

@@ -11,13 +11,13 @@ use Rattle.commands.specs.declared.buffers.Lengths.{Lengths}
 use Rattle.commands.specs.declared.lines.Parsed.the-variants.{Mangled}
 use Rattle.commands.specs.declared.lines.Tried.{Tried}
 use Rattle.commands.specs.declared.lines.Tried.the-variants.{Unfit, Fits}
-use Rattle.commands.specs.Texts.{same, before, parts, inFront}
+use Rattle.commands.specs.Texts.{same, parts, inFront}
 use Rattle.commands.specs.Words.{each, digit, isNumber, isBytes, wellBegun, hexDigit}
 use Rattle.commands.specs.Buffers.{bufferOf}
 use Rattle.commands.specs.Forms.{asksBytes, noValues}
 use Rattle.commands.specs.Lines.{page, words, rows, fit, fitRows, parseOf, takenOr}
 use Rattle.commands.specs.Mangled.{some, endsInSpace, twoTogether, isMangled, hasForm, formed, named, counted, tooLong, badlySpaced, noCommand, wrongNumber, badForm, ranged, outOfRange, oneHolds}
-use Rattle.commands.proofs.TextLaws.{some-part}
+use Rattle.commands.proofs.TextLaws.{first, some-part}
 use Rattle.commands.proofs.Ranges.{isFit, clash, and-left, and-right, wellMade, fit-exactly, rows-made}
 
 -- A LINE THAT HAS A ROW'S FORMS
@@ -229,7 +229,7 @@ begins (x ∷ l) h = (ne-eqb (length (x ∷ l)) 0 (λ e. omega arith), step (eqb
     step false e = refl
 
 rest-none : (l : List ℕ) → some none (words l) ≡ false → some none (drop 1 (words l)) ≡ false
-rest-none l h = or-none (none (before 32 l)) _ (sym (ap (some none) (some-part 32 l)) ∙ h)
+rest-none l h = or-none (none (first 32 l)) _ (sym (ap (some none) (some-part 32 l)) ∙ h)
 
 -- where no word but the first is empty, no space is last, and none stands beside another
 inside : (l : List ℕ) → some none (drop 1 (words l)) ≡ false → (endsInSpace l ≡ false) × (twoTogether l ≡ false)

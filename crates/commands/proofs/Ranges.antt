@@ -16,7 +16,7 @@ use Rattle.commands.specs.declared.lines.Tried.{Tried}
 use Rattle.commands.specs.declared.lines.Tried.the-variants.{Unfit, Fits}
 use Rattle.commands.specs.Texts.{bytes, same, parts}
 use Rattle.commands.specs.Words.{each, within, foundIf, isNumber, isBytes, decimal, numberIn, bytesIn}
-use Rattle.commands.specs.Buffers.{lengthOf, mostOf, bufferOf}
+use Rattle.commands.specs.Buffers.{textMost, lengthOf, mostOf, bufferOf}
 use Rattle.commands.specs.Forms.{asksBytes, rangeOf, bufferRangeOf, inRange, letterValue, valueOf, kept, noValues}
 use Rattle.commands.specs.Lines.{page, words, rows, fit, onValue}
 use Rattle.commands.specs.Mangled.{isFound, hasForm, formed, mostNamed, lengthNamed, numberOf, fromTo, takes, eachNumber, ranged}
@@ -173,7 +173,7 @@ module _ (l : Lengths) (vs : Values) (b : List ℕ) (o : ℕ) where
       by-letter (Exact w) 76 f (λ k h. number-found 0 _ w _ (at-most (mostOf (vs .first)) ∙ ap (λ m. fromTo 0 m d) (named-most b _ (k .buffer refl)))) (λ nL.
       by-letter (Exact w) 79 f (λ k h. number-found 0 _ w _ (ap (λ t. t && ltb d (lengthOf l (vs .first))) (leb·zero d) ∙ ap (ltb d) (named-length l b _ (k .buffer refl)))) (λ nO.
       by-letter (Exact w) 67 f (λ k h. number-found 1 _ w _ (least-left d 256 (lengthOf l (vs .first)) (vs .second) ∙ ap₂ (λ m c. fromTo 1 256 d && leb (c + d) m) (named-length l b _ (k .buffer refl)) (k .offset refl))) (λ nC.
-      by-letter (Exact w) 84 f (λ k h. bytes-found 0 _ w _ (least-left (length w / 2) 125 1200 (l .text))) (λ nT k h.
+      by-letter (Exact w) 84 f (λ k h. bytes-found 0 _ w _ (least-left (length w / 2) 125 textMost (l .text))) (λ nT k h.
       simp (ne-eqb f 73 nI, ne-eqb f 70 nF, ne-eqb f 66 nB, ne-eqb f 72 nH, ne-eqb f 87 nW, ne-eqb f 78 nN, ne-eqb f 76 nL, ne-eqb f 79 nO, ne-eqb f 67 nC, ne-eqb f 84 nT, ne-eqb f 85 nU, h)
       (number-found 1 0 w false (ap (λ t. leb 1 d && t) (leb·suc-zero d) ∙ and-false (leb 1 d)))))))))))))
 

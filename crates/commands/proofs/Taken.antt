@@ -17,7 +17,7 @@ use Rattle.commands.specs.declared.lines.Tried.{Tried}
 use Rattle.commands.specs.declared.lines.Tried.the-variants.{Unfit, Fits}
 use Rattle.commands.specs.Texts.{bytes, parts}
 use Rattle.commands.specs.Words.{within, foundIf, isNumber, isBytes, decimal, numberIn, bytesIn}
-use Rattle.commands.specs.Buffers.{lengthOf, mostOf}
+use Rattle.commands.specs.Buffers.{textMost, lengthOf, mostOf}
 use Rattle.commands.specs.Forms.{asksBytes, rangeOf, bufferRangeOf, letterValue, valueOf, kept, noValues}
 use Rattle.commands.specs.Kinds as kind
 use Rattle.commands.specs.Lines.{page, words, rows, onValue, fit, takenOr, fitRows, parseOf}
@@ -127,10 +127,10 @@ module _ (l : Lengths) (vs : Values) (w : List ℕ) (v : ℕ) where
       let r = found-within (isNumber w) 0 (mostOf (vs .first) + 1) (decimal w) v e in
       omega (arith, r .1)
 
-  text-within : valueOf l vs (bytes "T") w ≡ Value v → l .text + v ≤ 1200
+  text-within : valueOf l vs (bytes "T") w ≡ Value v → l .text + v ≤ textMost
   unfolding valueOf letterValue rangeOf bufferRangeOf asksBytes bytesIn
   text-within e =
-      let r = found-within (isBytes w) 1 (min 125 (1200 - l .text) + 1) (length w / 2) v e in
+      let r = found-within (isBytes w) 1 (min 125 (textMost - l .text) + 1) (length w / 2) v e in
       omega (arith, r .0, r .1)
 
 -- THE ROWS OF THE COMMANDS ON BUFFERS
@@ -159,7 +159,7 @@ module _ (l : Lengths) (ws : List (List ℕ)) (r : Values) where
       let o = behind l _ _ _ _ ws r e .third in
       rw (← ended l _ 3 _ r (o .goesOn)) (length-within l _ (o .word) (o .value) (o .found))
 
-  text-fits : fit l noValues 0 (bytes "text" ∷ bytes "T" ∷ []) ws ≡ Fits r → l .text + r .first ≤ 1200
+  text-fits : fit l noValues 0 (bytes "text" ∷ bytes "T" ∷ []) ws ≡ Fits r → l .text + r .first ≤ textMost
   text-fits e =
       let a = next l noValues 0 _ _ ws r e in
       let n = next l noValues 1 _ _ _ r (a .goesOn) in

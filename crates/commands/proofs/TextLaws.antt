@@ -9,64 +9,46 @@ use borrow.Author.Tests.{eq-eqb, ne-eqb}
 use lib.Dec.{eqb}
 use lib.ListN.{length, take, drop, getD, length-drop, drop-of-length-le}
 use lib.Seq.{drop-cons, drop-drop}
-use Rattle.commands.specs.Texts.{before, parts, same}
+use Rattle.bytes.specs.Bytes.{indexOf, indexAfter}
+use Rattle.commands.specs.Texts.{parts, same}
 
-module _ (b : ℕ) (l : List ℕ) (i : ℕ) where
-  pub before-here : i < length l → getD l i 0 ≡ b → length (before b (drop i l)) ≡ 0
-  unfolding before
-  before-here h e = rw (drop-cons l i 0 h) (simp (eq-eqb _ _ e))
+-- the part before the first b
+abbrev pub first : ℕ → List ℕ → List ℕ
+first b l = take (indexOf b l) l
 
-  pub before-next : i < length l → (getD l i 0 ≡ b → ⊥) → length (before b (drop i l)) ≡ suc (length (before b (drop (i + 1) l)))
-  unfolding before
-  before-next h n = rw (add-one, drop-cons l i 0 h) (simp (ne-eqb _ _ n))
-
-  pub before-end : length l ≤ i → length (before b (drop i l)) ≡ 0
-  unfolding before
-  before-end h = rw (drop-of-length-le l {i = i} h)
-
--- what stands before the first b is the first part, and the others are those of what stands behind it
-first-part : (b : ℕ) (l : List ℕ) → take (length (before b l)) l ≡ before b l
-unfolding before
-first-part b [] = refl
-first-part b (x ∷ l) = step (eqb x b) refl (first-part b l)
-  where
-    step : (t : Bool) → eqb x b ≡ t → take (length (before b l)) l ≡ before b l → take (length (before b (x ∷ l))) (x ∷ l) ≡ before b (x ∷ l)
-    step true e h = simp e
-    step false e h = simp e (ap (λ (m : List ℕ). x ∷ m) h)
-
-one-part : (b : ℕ) (l : List ℕ) → length (before b l) ≡ length l → parts b l ≡ before b l ∷ []
-unfolding before parts
+one-part : (b : ℕ) (l : List ℕ) → indexOf b l ≡ length l → parts b l ≡ first b l ∷ []
+unfolding indexOf indexAfter parts
 one-part b [] h = refl
 one-part b (x ∷ l) h = step (eqb x b) refl (one-part b l)
   where
-    step : (t : Bool) → eqb x b ≡ t → (length (before b l) ≡ length l → parts b l ≡ before b l ∷ []) → parts b (x ∷ l) ≡ before b (x ∷ l) ∷ []
-    step true e k = let z : length (before b (x ∷ l)) ≡ 0 = simp e in let w : ⊥ = omega arith in absurd w
-    step false e k = let z : length (before b (x ∷ l)) ≡ suc (length (before b l)) = simp e in simp (e, k (omega arith))
+    step : (t : Bool) → eqb x b ≡ t → (indexOf b l ≡ length l → parts b l ≡ first b l ∷ []) → parts b (x ∷ l) ≡ first b (x ∷ l) ∷ []
+    step true e k = let z : indexOf b (x ∷ l) ≡ 0 = simp e in let w : ⊥ = omega arith in absurd w
+    step false e k = let z : indexOf b (x ∷ l) ≡ suc (indexOf b l) = simp e in simp (e, k (omega arith))
 
-more-parts : (b : ℕ) (l : List ℕ) → length (before b l) < length l → parts b l ≡ before b l ∷ parts b (drop (suc (length (before b l))) l)
-unfolding before parts
+more-parts : (b : ℕ) (l : List ℕ) → indexOf b l < length l → parts b l ≡ first b l ∷ parts b (drop (suc (indexOf b l)) l)
+unfolding indexOf indexAfter parts
 more-parts b [] h = let z : ⊥ = omega arith in absurd z
 more-parts b (x ∷ l) h = step (eqb x b) refl (more-parts b l)
   where
-    step : (t : Bool) → eqb x b ≡ t → (length (before b l) < length l → parts b l ≡ before b l ∷ parts b (drop (suc (length (before b l))) l)) →
-        parts b (x ∷ l) ≡ before b (x ∷ l) ∷ parts b (drop (suc (length (before b (x ∷ l)))) (x ∷ l))
+    step : (t : Bool) → eqb x b ≡ t → (indexOf b l < length l → parts b l ≡ first b l ∷ parts b (drop (suc (indexOf b l)) l)) →
+        parts b (x ∷ l) ≡ first b (x ∷ l) ∷ parts b (drop (suc (indexOf b (x ∷ l))) (x ∷ l))
     step true e k = simp e
-    step false e k = let z : length (before b (x ∷ l)) ≡ suc (length (before b l)) = simp e in simp (e, k (omega arith))
+    step false e k = let z : indexOf b (x ∷ l) ≡ suc (indexOf b l) = simp e in simp (e, k (omega arith))
 
 -- a text has a first part
-pub some-part : (b : ℕ) (l : List ℕ) → parts b l ≡ before b l ∷ drop 1 (parts b l)
-unfolding before parts
+pub some-part : (b : ℕ) (l : List ℕ) → parts b l ≡ first b l ∷ drop 1 (parts b l)
+unfolding indexOf indexAfter parts
 some-part b [] = refl
 some-part b (x ∷ l) = step (eqb x b) refl (some-part b l)
   where
-    step : (t : Bool) → eqb x b ≡ t → parts b l ≡ before b l ∷ drop 1 (parts b l) → parts b (x ∷ l) ≡ before b (x ∷ l) ∷ drop 1 (parts b (x ∷ l))
+    step : (t : Bool) → eqb x b ≡ t → parts b l ≡ first b l ∷ drop 1 (parts b l) → parts b (x ∷ l) ≡ first b (x ∷ l) ∷ drop 1 (parts b (x ∷ l))
     step true e h = simp e
     step false e h = rw (e, h)
 
 -- the same from a place on, where r is the place of the first b
-module _ (b : ℕ) (l : List ℕ) (from r : ℕ) (found : r ≡ from + length (before b (drop from l))) where
-  here : take (r - from) (drop from l) ≡ before b (drop from l)
-  here = let e : r - from ≡ length (before b (drop from l)) = omega arith in rw e (first-part b (drop from l))
+module _ (b : ℕ) (l : List ℕ) (from r : ℕ) (found : r ≡ from + indexOf b (drop from l)) where
+  here : r - from ≡ indexOf b (drop from l)
+  here = omega arith
 
   pub parts-first : parts b (drop from l) ≡ take (r - from) (drop from l) ∷ drop 1 (parts b (drop from l))
   parts-first = rw here (some-part b (drop from l))
@@ -76,8 +58,8 @@ module _ (b : ℕ) (l : List ℕ) (from r : ℕ) (found : r ≡ from + length (b
 
   pub parts-more : r < length l → parts b (drop from l) ≡ take (r - from) (drop from l) ∷ parts b (drop (r + 1) l)
   parts-more h =
-      let e : from + suc (length (before b (drop from l))) ≡ r + 1 = omega arith in
-      rw (here, ← e, ← drop-drop (suc (length (before b (drop from l)))) from l) (more-parts b (drop from l) (omega (arith, length-drop from l)))
+      let e : from + suc (indexOf b (drop from l)) ≡ r + 1 = omega arith in
+      rw (here, ← e, ← drop-drop (suc (indexOf b (drop from l))) from l) (more-parts b (drop from l) (omega (arith, length-drop from l)))
 
 -- COMPARED
 

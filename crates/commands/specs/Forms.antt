@@ -13,7 +13,7 @@ use Rattle.commands.specs.declared.forms.Values.{Values}
 use Rattle.commands.specs.declared.numbers.Found.{Found}
 use Rattle.commands.specs.Texts.{bytes, same}
 use Rattle.commands.specs.Words.{foundIf, numberIn, bytesIn}
-use Rattle.commands.specs.Buffers.{lengthOf, mostOf, bufferOf}
+use Rattle.commands.specs.Buffers.{textMost, lengthOf, mostOf, bufferOf}
 
 -- a form's first byte is that letter
 abbrev pub isLetter : ℕ → List ℕ → Bool
@@ -30,7 +30,7 @@ bufferRangeOf l vs f =
     cond (isLetter f (bytes "L")) (upTo 0 (mostOf (vs .first) + 1))
     (cond (isLetter f (bytes "O")) (upTo 0 (lengthOf l (vs .first)))
     (cond (isLetter f (bytes "C")) (upTo 1 (min 256 (lengthOf l (vs .first) - vs .second) + 1))
-    (cond (isLetter f (bytes "T")) (upTo 1 (min 125 (1200 - l .text) + 1))
+    (cond (isLetter f (bytes "T")) (upTo 1 (min 125 (textMost - l .text) + 1))
     (upTo 1 0))))
 
 -- I is 1 to 7; F is 0 or 1; B is 0 to 255; H is 0 to 65,535; W is 0 to 4,294,967,295; N is exactly 16 bytes

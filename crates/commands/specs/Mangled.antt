@@ -11,7 +11,7 @@ use Rattle.commands.specs.declared.lines.Parsed.{Parsed}
 use Rattle.commands.specs.declared.lines.Parsed.the-variants.{Mangled, Taken}
 use Rattle.commands.specs.Texts.{bytes, same}
 use Rattle.commands.specs.Words.{isNumber, isBytes, decimal}
-use Rattle.commands.specs.Buffers.{bufferOf}
+use Rattle.commands.specs.Buffers.{tableMost, fileMost, textMost, bufferOf}
 use Rattle.commands.specs.Forms.{isLetter, asksBytes}
 use Rattle.commands.specs.Lines.{words, rows}
 
@@ -81,7 +81,10 @@ badForm line = not (some (λ row. formed (words row) (words line)) rows)
 
 -- the most bytes and the present length of the buffer that a word names
 unfoldable pub mostNamed : List ℕ → ℕ
-mostNamed b = cond (same b (bytes "table")) 65536 (cond (same b (bytes "work")) 65536 (cond (same b (bytes "file")) 70000 1200))
+mostNamed b =
+    cond (same b (bytes "table")) tableMost
+    (cond (same b (bytes "work")) tableMost
+    (cond (same b (bytes "file")) fileMost textMost))
 
 unfoldable pub lengthNamed : Lengths → List ℕ → ℕ
 lengthNamed l b =
@@ -108,7 +111,7 @@ takes l b o f n =
     (cond (isLetter f (bytes "L")) (fromTo 0 (mostNamed b) n)
     (cond (isLetter f (bytes "O")) (ltb n (lengthNamed l b))
     (cond (isLetter f (bytes "C")) (fromTo 1 256 n && leb (o + n) (lengthNamed l b))
-    (cond (isLetter f (bytes "T")) (fromTo 1 125 n && leb (l .text + n) 1200)
+    (cond (isLetter f (bytes "T")) (fromTo 1 125 n && leb (l .text + n) textMost)
     (isLetter f (bytes "U") || leb 97 f))))))))))
 
 -- a test of letter and number holds at each word

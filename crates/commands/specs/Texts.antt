@@ -14,11 +14,6 @@ bytesFrom (suc n) i s = code (charAt s i) ∷ bytesFrom n (suc i) s
 abbrev pub bytes : String → List ℕ
 bytes s = bytesFrom (len s) 0 s
 
--- the bytes before the first b
-unfoldable pub before : ℕ → List ℕ → List ℕ
-before b [] = []
-before b (x ∷ l) = cond (eqb x b) [] (x ∷ before b l)
-
 -- a byte in front of the first part
 abbrev pub inFront : ℕ → List (List ℕ) → List (List ℕ)
 inFront x [] = (x ∷ []) ∷ []

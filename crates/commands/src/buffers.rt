@@ -3,7 +3,7 @@ use crate::numbers::Found;
 use crate::texts;
 ghost use mathlib.Core.Path.{_≡_};
 ghost use Prim.Native.Nat.{_≤_};
-ghost use Rattle.commands.specs.Buffers.{lengthOf, mostOf, bufferOf};
+ghost use Rattle.commands.specs.Buffers.{fileMost, lengthOf, mostOf, bufferOf};
 
 // The present length of each buffer.
 pub struct Lengths {
@@ -48,7 +48,7 @@ pub(crate) fn length(lengths: Lengths, buffer: u32) -> u32
 // The most bytes of a buffer.
 pub(crate) fn most(buffer: u32) -> u32
     ensures { λ r. ⌜ r ≡ mostOf buffer ⌝ }
-    ensures small { λ r. ⌜ r ≤ 70000 ⌝ }
+    ensures small { λ r. ⌜ r ≤ fileMost ⌝ }
 {
     if buffer < FILE {
         return TABLE_MOST;

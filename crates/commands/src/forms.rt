@@ -120,7 +120,7 @@ fn is_bytes(letter: u8) -> bool
 }
 
 // The value of a word in a form: a fixed word is in lower case, any other form is told by its letter.
-pub fn value(form: &[u8], word: &[u8], lengths: Lengths, vs: Values) -> Found
+pub(crate) fn value(form: &[u8], word: &[u8], lengths: Lengths, vs: Values) -> Found
     ensures { λ r. ⌜ r ≡ valueOf lengths vs (now (form .entry)) (now (word .entry)) ⌝ }
 {
     let letter = letter_of(form);
@@ -141,7 +141,7 @@ pub fn value(form: &[u8], word: &[u8], lengths: Lengths, vs: Values) -> Found
 }
 
 // The values with that of the word at a place, the command's first word being at 0.
-pub fn keep(vs: Values, place: usize, v: u32) -> Values
+pub(crate) fn keep(vs: Values, place: usize, v: u32) -> Values
     ensures { λ r. ⌜ r ≡ kept vs place v ⌝ }
 {
     if place == 1 {

@@ -7,6 +7,7 @@ use borrow.Author.Tests.{eq-eqb, ne-eqb}
 use lib.ListN.{set, drop}
 use Rattle.commands.specs.declared.buffers.Lengths.{Lengths}
 use Rattle.commands.specs.declared.forms.Values.{Values}
+use Rattle.commands.specs.Buffers as buffer
 use Rattle.commands.specs.Kinds as kind
 use Rattle.desk_buffers.specs.Bytes.{filled, putAt, said}
 use Rattle.desk_buffers.specs.Buffers.{lengthAfter, bytesAfter, buffersOf, buffersAfter}
@@ -45,24 +46,24 @@ module _ (k : ℕ) (vs : Values) (line : List ℕ) (l : Lengths) (t w f x : List
   text-added e n x′ p q = rw (eq-eqb k kind.text e, p, q)
 
   module _ (n₆ : k ≡ kind.text → ⊥) where
-    pub on-table : vs .first ≡ 0 → (n : ℕ) (t′ : List ℕ) → n ≡ lengthAfter k vs (l .table) → t′ ≡ bytesAfter k vs (l .table) t →
+    pub on-table : vs .first ≡ buffer.table → (n : ℕ) (t′ : List ℕ) → n ≡ lengthAfter k vs (l .table) → t′ ≡ bytesAfter k vs (l .table) t →
         buffersOf (record { table = n; work = l .work; file = l .file; text = l .text }) t′ w f x ≡ buffersAfter k vs line (buffersOf l t w f x)
     unfolding buffersAfter
-    on-table e n t′ p q = rw (ne-eqb k kind.text n₆, eq-eqb (vs .first) 0 e, p, q)
+    on-table e n t′ p q = rw (ne-eqb k kind.text n₆, eq-eqb (vs .first) buffer.table e, p, q)
 
-    module _ (n₀ : vs .first ≡ 0 → ⊥) where
-      pub on-work : vs .first ≡ 1 → (n : ℕ) (w′ : List ℕ) → n ≡ lengthAfter k vs (l .work) → w′ ≡ bytesAfter k vs (l .work) w →
+    module _ (n₀ : vs .first ≡ buffer.table → ⊥) where
+      pub on-work : vs .first ≡ buffer.work → (n : ℕ) (w′ : List ℕ) → n ≡ lengthAfter k vs (l .work) → w′ ≡ bytesAfter k vs (l .work) w →
           buffersOf (record { table = l .table; work = n; file = l .file; text = l .text }) t w′ f x ≡ buffersAfter k vs line (buffersOf l t w f x)
       unfolding buffersAfter
-      on-work e n w′ p q = rw (ne-eqb k kind.text n₆, ne-eqb (vs .first) 0 n₀, eq-eqb (vs .first) 1 e, p, q)
+      on-work e n w′ p q = rw (ne-eqb k kind.text n₆, ne-eqb (vs .first) buffer.table n₀, eq-eqb (vs .first) buffer.work e, p, q)
 
-      module _ (n₁ : vs .first ≡ 1 → ⊥) where
-        pub on-file : vs .first ≡ 2 → (n : ℕ) (f′ : List ℕ) → n ≡ lengthAfter k vs (l .file) → f′ ≡ bytesAfter k vs (l .file) f →
+      module _ (n₁ : vs .first ≡ buffer.work → ⊥) where
+        pub on-file : vs .first ≡ buffer.file → (n : ℕ) (f′ : List ℕ) → n ≡ lengthAfter k vs (l .file) → f′ ≡ bytesAfter k vs (l .file) f →
             buffersOf (record { table = l .table; work = l .work; file = n; text = l .text }) t w f′ x ≡ buffersAfter k vs line (buffersOf l t w f x)
         unfolding buffersAfter
-        on-file e n f′ p q = rw (ne-eqb k kind.text n₆, ne-eqb (vs .first) 0 n₀, ne-eqb (vs .first) 1 n₁, eq-eqb (vs .first) 2 e, p, q)
+        on-file e n f′ p q = rw (ne-eqb k kind.text n₆, ne-eqb (vs .first) buffer.table n₀, ne-eqb (vs .first) buffer.work n₁, eq-eqb (vs .first) buffer.file e, p, q)
 
-        pub on-text : (vs .first ≡ 2 → ⊥) → (n : ℕ) (x′ : List ℕ) → n ≡ lengthAfter k vs (l .text) → x′ ≡ bytesAfter k vs (l .text) x →
+        pub on-text : (vs .first ≡ buffer.file → ⊥) → (n : ℕ) (x′ : List ℕ) → n ≡ lengthAfter k vs (l .text) → x′ ≡ bytesAfter k vs (l .text) x →
             buffersOf (record { table = l .table; work = l .work; file = l .file; text = n }) t w f x′ ≡ buffersAfter k vs line (buffersOf l t w f x)
         unfolding buffersAfter
-        on-text n₂ n x′ p q = rw (ne-eqb k kind.text n₆, ne-eqb (vs .first) 0 n₀, ne-eqb (vs .first) 1 n₁, ne-eqb (vs .first) 2 n₂, p, q)
+        on-text n₂ n x′ p q = rw (ne-eqb k kind.text n₆, ne-eqb (vs .first) buffer.table n₀, ne-eqb (vs .first) buffer.work n₁, ne-eqb (vs .first) buffer.file n₂, p, q)

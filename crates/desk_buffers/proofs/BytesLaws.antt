@@ -1,23 +1,16 @@
 -- Laws of bytes that are filled, put in and summed, a byte at a time.
 use mathlib.Core.Bool.{Bool, true, false}
-use mathlib.Core.List.{List, [], _∷_}
-use mathlib.Core.Path.{_≡_, refl, ap}
-use Prim.Native.Nat.{ℕ, zero, suc, _+_, _-_, _*_, _%_, _<_, _≤_, min}
+use mathlib.Core.List.{List}
+use mathlib.Core.Path.{_≡_, refl}
+use Prim.Native.Nat.{ℕ, suc, _+_, _-_, _*_, _%_, _<_, _≤_, min}
 use native.Mathlib.Numerals.{add-one}
-use native.Mathlib.Nat.{le-of-suc-le-suc}
 use native.Mathlib.Omega.{arith}
 use borrow.Author.Tests.{leb-true, leb-false}
 use lib.Dec.{leb}
 use lib.ListN.{length, getD, set, take, drop, drop-of-length-le}
 use lib.Seq.{drop-cons, take-all, take-length}
 use Rattle.commands.specs.Words.{byteAt}
-use Rattle.desk_buffers.specs.Bytes.{filled, putAt, said, adlerFrom}
-
--- a place beyond the end has no byte
-pub set-beyond : (l : List ℕ) (i v : ℕ) → length l ≤ i → set l i v ≡ l
-set-beyond [] i v h = refl
-set-beyond (x ∷ l) zero v h = let z : ⊥ = omega arith in absurd z
-set-beyond (x ∷ l) (suc i) v h = ap (λ (m : List ℕ). x ∷ m) (set-beyond l i v (le-of-suc-le-suc h))
+use Rattle.desk_buffers.specs.Bytes.{filled, putAt, said, modulus, adlerFrom}
 
 pub filled-next : (end i v : ℕ) (l : List ℕ) → i < end → filled (end - i) i v l ≡ filled (end - (i + 1)) (i + 1) v (set l i v)
 unfolding filled
@@ -27,24 +20,16 @@ pub filled-end : (end i v : ℕ) (l : List ℕ) → end ≤ i → filled (end - 
 unfolding filled
 filled-end end i v l h = let e : end - i ≡ 0 = omega arith in rw e
 
-pub put-next : (j i : ℕ) (p l : List ℕ) → i < length p → putAt j (drop i p) l ≡ putAt (j + 1) (drop (i + 1) p) (set l j (getD p i 0))
-unfolding putAt
-put-next j i p l h = rw (add-one i, drop-cons p i 0 h)
-
-pub put-end : (j i : ℕ) (p l : List ℕ) → length p ≤ i → putAt j (drop i p) l ≡ l
-unfolding putAt
-put-end j i p l h = rw (drop-of-length-le p {i = i} h)
-
 pub said-next : (w : List ℕ) (n i j : ℕ) (l : List ℕ) → i < n → putAt j (said w (n - i) i) l ≡ putAt (j + 1) (said w (n - (i + 1)) (i + 1)) (set l j (byteAt w i))
-unfolding putAt said
-said-next w n i j l h = let e : n - i ≡ suc (n - (i + 1)) = omega arith in rw e
+unfolding said
+said-next w n i j l h = let e : n - i ≡ suc (n - (i + 1)) = omega arith in rw (e, add-one j)
 
 pub said-end : (w : List ℕ) (n i j : ℕ) (l : List ℕ) → n ≤ i → putAt j (said w (n - i) i) l ≡ l
-unfolding putAt said
+unfolding said
 said-end w n i j l h = let e : n - i ≡ 0 = omega arith in rw e
 
 pub adler-next : (a b i : ℕ) (l : List ℕ) → i < length l →
-    adlerFrom a b (drop i l) ≡ adlerFrom ((a + getD l i 0) % 65521) ((b + (a + getD l i 0) % 65521) % 65521) (drop (i + 1) l)
+    adlerFrom a b (drop i l) ≡ adlerFrom ((a + getD l i 0) % modulus) ((b + (a + getD l i 0) % modulus) % modulus) (drop (i + 1) l)
 unfolding adlerFrom
 adler-next a b i l h = rw (add-one i, drop-cons l i 0 h)
 

@@ -6,6 +6,7 @@ use lib.Dec.{eqb}
 use lib.ListN.{set, drop}
 use Rattle.commands.specs.declared.buffers.Lengths.{Lengths}
 use Rattle.commands.specs.declared.forms.Values.{Values}
+use Rattle.commands.specs.Buffers as buffer
 use Rattle.commands.specs.Kinds as kind
 use Rattle.desk_buffers.specs.Bytes.{filled, putAt, said}
 
@@ -65,6 +66,6 @@ module _ (k : ℕ) (vs : Values) (line : List ℕ) (b : Buffers) where
   unfoldable pub buffersAfter : Buffers
   buffersAfter =
       cond (eqb k kind.text) textAdded
-      (cond (eqb (vs .first) 0) onTable
-      (cond (eqb (vs .first) 1) onWork
-      (cond (eqb (vs .first) 2) onFile onText)))
+      (cond (eqb (vs .first) buffer.table) onTable
+      (cond (eqb (vs .first) buffer.work) onWork
+      (cond (eqb (vs .first) buffer.file) onFile onText)))

@@ -4,6 +4,7 @@ use mathlib.Core.List.{List, [], _∷_}
 use Prim.Native.Nat.{ℕ, zero, suc, _+_, _*_, _%_}
 use lib.Dec.{leb}
 use lib.ListN.{length, set, take, drop}
+use lib.Seq.{sets}
 use Rattle.commands.specs.Words.{byteAt}
 
 -- the k bytes from place i on become v; a place beyond the buffer has no byte
@@ -12,19 +13,22 @@ filled zero i v l = l
 filled (suc k) i v l = filled k (i + 1) v (set l i v)
 
 -- bytes go to a buffer from place i on
-unfoldable pub putAt : ℕ → List ℕ → List ℕ → List ℕ
-putAt i [] l = l
-putAt i (b ∷ p) l = putAt (i + 1) p (set l i b)
+abbrev pub putAt : ℕ → List ℕ → List ℕ → List ℕ
+putAt i p l = sets l i p
 
 -- the k bytes that a word says from its byte i on
 unfoldable pub said : List ℕ → ℕ → ℕ → List ℕ
 said w zero i = []
 said w (suc k) i = byteAt w i ∷ said w k (i + 1)
 
+-- what both halves of the Adler-32 sum stay below
+abbrev pub modulus : ℕ
+modulus = 65521
+
 -- the Adler-32 sum: for each byte, in order, a becomes (a + byte) mod 65,521 and then b becomes (b + a) mod 65,521
 unfoldable pub adlerFrom : ℕ → ℕ → List ℕ → ℕ
 adlerFrom a b [] = b * 65536 + a
-adlerFrom a b (x ∷ l) = adlerFrom ((a + x) % 65521) ((b + (a + x) % 65521) % 65521) l
+adlerFrom a b (x ∷ l) = adlerFrom ((a + x) % modulus) ((b + (a + x) % modulus) % modulus) l
 
 abbrev pub adlerOf : List ℕ → ℕ
 adlerOf l = adlerFrom 1 0 l

@@ -4,7 +4,7 @@ ghost use mathlib.Core.Path.{_≡_};
 ghost use Prim.Native.Nat.{_+_, _-_, _%_, _<_, min};
 ghost use lib.ListN.{length, set, drop};
 ghost use Rattle.io.specs.Counts.{Counts};
-ghost use Rattle.desk_buffers.specs.Bytes.{filled, putAt, said, adlerOf, partOf};
+ghost use Rattle.desk_buffers.specs.Bytes.{filled, putAt, said, modulus, adlerOf, partOf};
 
 // A byte of a number that a command has from 0 to 255.
 pub fn byte(n: u32) -> u8
@@ -60,9 +60,7 @@ pub(crate) fn part<'a>(buf: &'a [u8], from: u32, count: u32) -> &'a [u8]
 pub fn poke(buf: &mut [u8], at: usize, v: u8)
     ensures { λ _. ⌜ now (buf .exit) ≡ set (now (buf .entry)) at v ⌝ }
 {
-    if at < buf.len() {
-        buf[at] = v;
-    }
+    texts::put(buf, at, v);
 }
 
 // The bytes from one place on and before another become v.
@@ -80,11 +78,7 @@ pub(crate) fn fill(buf: &mut [u8], from: usize, end: usize, v: u8)
 pub fn copy(part: &[u8], buf: &mut [u8])
     ensures { λ _. ⌜ now (buf .exit) ≡ putAt 0 (now (part .entry)) (now (buf .entry)) ⌝ }
 {
-    let mut i = 0;
-    while i < part.len() {
-        poke(buf, i, part[i]);
-        i += 1;
-    }
+    texts::put_word(buf, 0, part);
 }
 
 // The first bytes that a word says go to a buffer from a place on.
@@ -107,16 +101,16 @@ const MODULUS: u32 = 65521;
 
 // One step of its first half, by a byte.
 fn step(a: u32, x: u8) -> u32
-    requires { ⌜ a < 65521 ⌝ }
-    ensures { λ r. ⌜ (r ≡ (a + x) % 65521) × (r < 65521) ⌝ }
+    requires { ⌜ a < modulus ⌝ }
+    ensures { λ r. ⌜ (r ≡ (a + x) % modulus) × (r < modulus) ⌝ }
 {
     (a + x as u32) % MODULUS
 }
 
 // One step of its second half, by the first.
 fn second_step(b: u32, a: u32) -> u32
-    requires { ⌜ (b < 65521) × (a < 65521) ⌝ }
-    ensures { λ r. ⌜ (r ≡ (b + a) % 65521) × (r < 65521) ⌝ }
+    requires { ⌜ (b < modulus) × (a < modulus) ⌝ }
+    ensures { λ r. ⌜ (r ≡ (b + a) % modulus) × (r < modulus) ⌝ }
 {
     (b + a) % MODULUS
 }

@@ -8,7 +8,8 @@ use Rattle.tasks.specs.declared.refusals.Refusal.{Refusal}
 use Rattle.tasks.specs.declared.sets.Set.{Set}
 use Rattle.tasks.specs.Sets.{characters}
 use Rattle.sheet_form.specs.Form.{each}
-use Rattle.report_lines.specs.Lines.{bytes, field, setLine, shieldLine, rowLine, rowLines, refusedLine}
+use Rattle.texts.specs.Texts.{bytes}
+use Rattle.report_lines.specs.Lines.{field, setLine, shieldLine, rowLine, rowLines, refusedLine}
 use Rattle.report_lines.proofs.Numbers.{field-length}
 
 pub set-length : (s : Set) (S : ℕ) → length (s .name) ≤ 16 → s .count < 10 ^ 1 → S < 10 ^ 5 → length (setLine s S) ≤ 42

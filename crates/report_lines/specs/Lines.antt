@@ -1,21 +1,14 @@
 -- The report's lines, byte by byte.
 use mathlib.Core.Bool.{cond}
 use mathlib.Core.List.{List, [], _∷_, _++_}
-use Prim.Native.Char.{code}
 use Prim.Native.Nat.{ℕ, zero, suc, _+_, _*_, _/_, _%_}
-use Prim.Native.String.{String}
-use Prim.Native.String as Text
 use lib.Dec.{leb, ltb}
 use lib.ListN.{take, drop}
 use Rattle.tasks.specs.declared.refusals.Refusal.{Refusal}
 use Rattle.tasks.specs.declared.sets.Set.{Set}
 use Rattle.tasks.specs.Sets.{characters}
+use Rattle.texts.specs.Texts.{bytes}
 use Rattle.sheet_form.specs.Form.{each}
-
--- the bytes of a text, a byte a character
-abbrev pub bytes : String → List ℕ
-bytes Text.[] = []
-bytes (Text._∷_ c t) = code c ∷ bytes t
 
 -- the last digits of a number in base ten, at most k of them, without leading zeros
 unfoldable pub digitsTo : ℕ → ℕ → List ℕ

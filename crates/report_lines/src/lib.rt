@@ -6,7 +6,8 @@ ghost use Prim.Native.Nat.{_+_, _/_, _<_, min};
 ghost use lib.ListN.{length};
 ghost use Rattle.sheet_form.specs.Form.{each};
 ghost use Rattle.texts.specs.Puts.{Puts};
-ghost use Rattle.report_lines.specs.Lines.{bytes, numberText, field, setLine, shieldLine, rowLine, rowLines, refusedLine};
+ghost use Rattle.texts.specs.Texts.{bytes};
+ghost use Rattle.report_lines.specs.Lines.{numberText, field, setLine, shieldLine, rowLine, rowLines, refusedLine};
 
 // A number, in base ten.
 fn put_number(buf: &mut [u8], at: usize, n: u64) -> usize

@@ -19,7 +19,8 @@ use Rattle.sheet_form.specs.Sets.{listOf, padded, lineFault, setOf}
 use Rattle.sheet_reader.specs.declared.ReadAnswer.the-variants as Read
 use Rattle.sheet_reader.specs.Reading.{readText}
 use Rattle.sheet_reader.proofs.Readings.{read-lines}
-use Rattle.report_lines.specs.Lines.{bytes, digitsTo, numberText, field, setLine, shieldLine, rowLine, rowLines, rowsText}
+use Rattle.texts.specs.Texts.{bytes}
+use Rattle.report_lines.specs.Lines.{digitsTo, numberText, field, setLine, shieldLine, rowLine, rowLines, rowsText}
 use Rattle.tasks.specs.Refusals.{answered}
 use Rattle.reporter.specs.Report.{Told, builtText, room, Left, reportOf, toldOf, saidReported}
 use Rattle.reporter.proofs.Reports.{told-taken, report-room}

@@ -2,6 +2,7 @@
 // reader's place and the set beside the answer are printed and, where the set was taken, what is written of it.
 mod say;
 
+use bytes::scan;
 use cases::lines::put;
 use cases::lines::put_number;
 use say::say_answer;
@@ -43,34 +44,19 @@ fn read(text: &[u8]) {
     write_back(a, set);
 }
 
-// Where a byte stands first from a place on; the end where it does not.
-fn find(text: &[u8], from: usize, mark: u8) -> usize
-    requires { ⌜ from ≤ length (now text) ⌝ }
-    ensures { λ r. ⌜ (from ≤ r) × (r ≤ length (now (text .entry))) ⌝ }
-{
-    let mut i = from;
-    while i < text.len() {
-        if text[i] == mark {
-            return i;
-        }
-        i += 1;
-    }
-    i
-}
-
 // The case that begins at a place, and the place of the next.
 fn read_one(cases: &[u8], i: usize) -> usize
     requires { ⌜ i < length (now cases) ⌝ }
     ensures { λ r. ⌜ (i < r) × (r ≤ length (now (cases .entry))) ⌝ }
 {
-    let bar = find(cases, i, b'|');
+    let bar = scan::find(cases, i, cases.len(), b'|');
     put(&cases[i..bar]);
     put(b":");
     if bar == cases.len() {
         return bar;
     }
     let start = bar + 1;
-    let end = find(cases, start, b'~');
+    let end = scan::find(cases, start, cases.len(), b'~');
     read(&cases[start..end]);
     if end == cases.len() {
         return end;

@@ -12,6 +12,10 @@ use Rattle.sheet_fields.specs.State.{atLine, inDeadline, inRuns, inGaps,
 abbrev pub broken : Kept
 broken = record { last = 17; bits = 0 }
 
+-- no list begun
+abbrev pub noList : Kept
+noList = record { last = 0; bits = 0 }
+
 -- one number more on a list, while it rises
 unfoldable pub pushOf : ℕ → ℕ → ℕ → Kept
 pushOf last bits v = cond (ltb last v && leb v 16) (record { last = v; bits = (bits + 2 ^ (v - 1)) % 65536 }) broken
@@ -24,21 +28,21 @@ enderOf m = cond (eqb m inGaps) 10 32
 abbrev pub endedTask : State → Task
 endedTask s = record { kind = s .kind; deadline = s .deadline; runs = s .runs; gaps = pushOf (s .last) (s .bits) (s .at) .bits }
 
+-- a number begins: the list before it in its field, the task's deadline and run times
+abbrev pub begun : State → ℕ → Kept → ℕ → ℕ → State
+begun s m l d c = record { mode = m; at = 0; last = l .last; bits = l .bits; kind = s .kind; deadline = d; runs = c; count = s .count }
+
 -- the number read ends a field
 unfoldable pub closedOf : State → State
 closedOf s =
-    cond (eqb (s .mode) inDeadline)
-    (record { mode = inRuns; at = 0; last = s .last; bits = s .bits; kind = s .kind; deadline = s .at; runs = s .runs; count = s .count })
-    (cond (eqb (s .mode) inRuns)
-    (record { mode = inGaps; at = 0; last = 0; bits = 0; kind = s .kind; deadline = s .deadline; runs = pushOf (s .last) (s .bits) (s .at) .bits; count = s .count })
+    cond (eqb (s .mode) inDeadline) (begun s inRuns (record { last = s .last; bits = s .bits }) (s .at) (s .runs))
+    (cond (eqb (s .mode) inRuns) (begun s inGaps noList (s .deadline) (pushOf (s .last) (s .bits) (s .at) .bits))
     (cond (ltb (s .count) 7) (record { mode = atLine; at = 0; last = 0; bits = 0; kind = 0; deadline = 0; runs = 0; count = s .count + 1 })
     (blankOf atFault)))
 
 -- a comma after the number read
 abbrev pub commaOf : State → State
-commaOf s =
-    let k = pushOf (s .last) (s .bits) (s .at) in
-    record { mode = s .mode; at = 0; last = k .last; bits = k .bits; kind = s .kind; deadline = s .deadline; runs = s .runs; count = s .count }
+commaOf s = begun s (s .mode) (pushOf (s .last) (s .bits) (s .at)) (s .deadline) (s .runs)
 
 -- a digit, the field's end or, in a list, a comma
 unfoldable pub fieldOf : State → ℕ → State

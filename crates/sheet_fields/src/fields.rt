@@ -4,13 +4,18 @@ use crate::state::State;
 use tasks::sets::Task;
 ghost use mathlib.Core.Path.{_≡_};
 ghost use Rattle.sheet_form.specs.Machine.{digit};
-ghost use Rattle.sheet_fields.specs.Fields.{pushOf, enderOf, endedTask, closedOf, commaOf, fieldOf};
+ghost use Rattle.sheet_fields.specs.Fields.{pushOf, enderOf, endedTask, begun, closedOf, commaOf, fieldOf};
 
 // A list as it is read: its last number and its bits; 17 and no bits once it does not rise.
 pub struct Kept {
     pub last: u8,
     pub bits: u16,
 }
+
+const BROKEN: Kept = Kept { last: 17, bits: 0 };
+
+// No list begun.
+const NO_LIST: Kept = Kept { last: 0, bits: 0 };
 
 // The number v with one digit more; 0 where the byte is none or the number leaves 1 to 16.
 fn more_digit(v: u8, b: u8) -> u8
@@ -35,10 +40,10 @@ fn push(last: u8, bits: u16, v: u8) -> Kept
     ensures { λ r. ⌜ r ≡ pushOf last bits v ⌝ }
 {
     if v <= last {
-        return Kept { last: 17, bits: 0 };
+        return BROKEN;
     }
     if 16 < v {
-        return Kept { last: 17, bits: 0 };
+        return BROKEN;
     }
     Kept {
         last: v,
@@ -69,35 +74,37 @@ pub fn ended_task(s: State) -> Task
     }
 }
 
+// A number begins: the list before it in its field, the task's deadline and run times.
+fn begin(s: State, mode: u8, list: Kept, deadline: u8, runs: u16) -> State
+    ensures { λ r. ⌜ r ≡ begun s mode list deadline runs ⌝ }
+{
+    State {
+        mode,
+        at: 0,
+        last: list.last,
+        bits: list.bits,
+        kind: s.kind,
+        deadline,
+        runs,
+        count: s.count,
+    }
+}
+
 // The number read ends a field; with the gaps a task ends. No line begins after the seventh task, so the test of the count only lets
 // the contract hold for every state.
 fn closed(s: State) -> State
     ensures { λ r. ⌜ r ≡ closedOf s ⌝ }
 {
     if s.mode == state::DEADLINE {
-        return State {
-            mode: state::RUNS,
-            at: 0,
+        let list = Kept {
             last: s.last,
             bits: s.bits,
-            kind: s.kind,
-            deadline: s.at,
-            runs: s.runs,
-            count: s.count,
         };
+        return begin(s, state::RUNS, list, s.at, s.runs);
     }
     if s.mode == state::RUNS {
-        let k = push(s.last, s.bits, s.at);
-        return State {
-            mode: state::GAPS,
-            at: 0,
-            last: 0,
-            bits: 0,
-            kind: s.kind,
-            deadline: s.deadline,
-            runs: k.bits,
-            count: s.count,
-        };
+        let runs = push(s.last, s.bits, s.at);
+        return begin(s, state::GAPS, NO_LIST, s.deadline, runs.bits);
     }
     if 7 <= s.count {
         return state::blank(state::FAULT);
@@ -118,17 +125,8 @@ fn closed(s: State) -> State
 fn comma(s: State) -> State
     ensures { λ r. ⌜ r ≡ commaOf s ⌝ }
 {
-    let k = push(s.last, s.bits, s.at);
-    State {
-        mode: s.mode,
-        at: 0,
-        last: k.last,
-        bits: k.bits,
-        kind: s.kind,
-        deadline: s.deadline,
-        runs: s.runs,
-        count: s.count,
-    }
+    let list = push(s.last, s.bits, s.at);
+    begin(s, s.mode, list, s.deadline, s.runs)
 }
 
 // One byte in a number or a list.

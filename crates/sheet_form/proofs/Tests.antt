@@ -1,8 +1,7 @@
 -- Laws of lists. Assumes nothing.
 use mathlib.Core.Path.{_≡_, refl, sym, ap, _∙_}
 use mathlib.Core.List.{List, [], _∷_, _++_, append-assoc, append-nil}
-use Prim.Native.Nat.{ℕ, zero, suc}
-use lib.ListN.{take}
+use Prim.Native.Nat.{ℕ}
 use Rattle.sheet_form.specs.Form.{each, Each}
 
 module _ {A : Type 0} where
@@ -16,8 +15,3 @@ module _ {A : Type 0} where
   pub Each-snoc : (P : A → Type 0) (xs : List A) (x : A) → Each P xs → P x → Each P (xs ++ (x ∷ []))
   Each-snoc P [] x h p = (p, tt)
   Each-snoc P (y ∷ xs) x h p = (h .0, Each-snoc P xs x (h .1) p)
-
-  pub Each-take : (P : A → Type 0) (n : ℕ) (xs : List A) → Each P xs → Each P (take n xs)
-  Each-take P zero xs h = tt
-  Each-take P (suc n) [] h = tt
-  Each-take P (suc n) (x ∷ xs) h = (h .0, Each-take P n xs (h .1))

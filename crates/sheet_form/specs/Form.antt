@@ -6,6 +6,7 @@ use Prim.Native.Nat.{ℕ, suc, _+_, _/_, _%_, _≤_, _<_}
 use lib.Dec.{T, ltb}
 use lib.ListN.{length, take}
 use Rattle.tasks.specs.Sets.{nameByte}
+use Rattle.texts.specs.Texts.{bytes}
 
 -- the numbers of a list: never none, so the last stands apart
 pub record Values : Type 0 where
@@ -37,13 +38,13 @@ module _ {A : Type 0} where
 -- THE TEXT
 
 abbrev pub space : List ℕ
-space = 32 ∷ []
+space = bytes " "
 
 abbrev pub comma : List ℕ
-comma = 44 ∷ []
+comma = bytes ","
 
 abbrev pub lf : List ℕ
-lf = 10 ∷ []
+lf = bytes "\n"
 
 -- a number below 100, without leading zeros
 unfoldable pub decimal : ℕ → List ℕ
@@ -56,18 +57,16 @@ withComma x = decimal x ++ comma
 unfoldable pub valuesText : Values → List ℕ
 valuesText l = each withComma (l .firsts) ++ decimal (l .final)
 
--- `hard ` and `soft `
 abbrev pub kindText : Bool → List ℕ
-kindText true = 104 ∷ 97 ∷ 114 ∷ 100 ∷ 32 ∷ []
-kindText false = 115 ∷ 111 ∷ 102 ∷ 116 ∷ 32 ∷ []
+kindText true = bytes "hard "
+kindText false = bytes "soft "
 
 -- one line a task: kind, D, C, A
 unfoldable pub lineText : Line → List ℕ
 lineText l = kindText (l .hard) ++ decimal (l .deadline) ++ space ++ valuesText (l .runs) ++ space ++ valuesText (l .gaps) ++ lf
 
--- `set `
 abbrev pub setText : List ℕ
-setText = 115 ∷ 101 ∷ 116 ∷ 32 ∷ []
+setText = bytes "set "
 
 abbrev pub sheetText : Sheet → List ℕ
 sheetText s = setText ++ s .name ++ lf ++ each lineText (s .lines)

@@ -5,15 +5,15 @@ use lib.ListN.{take}
 use Rattle.tasks.specs.declared.sets.Task.{Task}
 use Rattle.tasks.specs.declared.sets.Set.{Set}
 use Rattle.tasks.specs.Sets.{taskAt, statesOf}
+use Rattle.texts.specs.Texts.{bytes}
 
 -- a number in n bytes, low byte first
 unfoldable pub lowFirst : ℕ → ℕ → List ℕ
 lowFirst zero x = []
 lowFirst (suc n) x = x % 256 ∷ lowFirst n (x / 256)
 
--- mark `SHT`
 abbrev pub mark : List ℕ
-mark = 83 ∷ 72 ∷ 84 ∷ []
+mark = bytes "SHT"
 
 -- version 1 as 16 bits
 abbrev pub version : List ℕ

@@ -11,26 +11,11 @@ use Rattle.reporter.proofs.Reports.{table-length, rows-left-out, rows-s
 use Rattle.reporter.proofs.put_done.Statement.{statement}
 use Rattle.reporter.proofs.put_done.Tie as tie
 
-states-requires : tie.Need-states-requires
-states-requires c κs = search needs
-
-put-set-line-requires : tie.Need-put-set-line-requires
-put-set-line-requires c κs = search needs
-
-put-shield-line-requires : tie.Need-put-shield-line-requires
-put-shield-line-requires c κs = search needs
-
-same-length : tie.Need-same-length
-same-length c = search needs
-
 returns : tie.Need-returns
 returns c =
     let s = c .before .before .before .before .before .before .before .before .before .before .before .before .args .set in
     let a = puts-as (c .before .before .before .before .before .before .before .put-set-line .ensures) (ap (setLine s) (c .before .before .before .before .before .before .before .before .before .states .ensures)) in
     puts-as (puts-then a (c .before .before .before .put-shield-line .ensures)) (rows-left-out (statesOf s) (shieldTable s) _ (omega (arith, c .before .before .before .before .before .before .before .before .before .states .ensures, c .if1 .taken)))
-
-cast-size : tie.Need-cast-size
-cast-size c = search needs
 
 -- the table's first S bytes
 abbrev Sliced : Type 0
@@ -41,12 +26,6 @@ first-entries d = ap (λ n. take n (d .before .before .before .before .before .b
 
 slice-aggregate-put-rows : tie.Need-slice-aggregate-put-rows
 slice-aggregate-put-rows c = c .before .before .before .before .before .before .before .before .before .before .before .states .ensures ∙ sym (ap length (first-entries c) ∙ table-length (c .before .before .before .before .before .before .before .before .before .before .before .before .before .before .args .set))
-
-put-rows-requires : tie.Need-put-rows-requires
-put-rows-requires c κs = search needs
-
-same-length-2 : tie.Need-same-length-2
-same-length-2 c = search needs
 
 returns-2 : tie.Need-returns-2
 returns-2 c =
@@ -59,13 +38,13 @@ pub put-done-spec : {M : Type 1} → statement M
 put-done-spec =
     tie.close
     (tie.spec
-    states-requires
-    put-set-line-requires
-    put-shield-line-requires
-    same-length
+    (λ c κs. search needs)
+    (λ c κs. search needs)
+    (λ c κs. search needs)
+    (λ c. search needs)
     returns
-    cast-size
+    (λ c. search needs)
     slice-aggregate-put-rows
-    put-rows-requires
-    same-length-2
+    (λ c κs. search needs)
+    (λ c. search needs)
     returns-2)

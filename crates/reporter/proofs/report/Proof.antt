@@ -5,30 +5,15 @@ use Rattle.reporter.proofs.Reports.{report-short, report-fits}
 use Rattle.reporter.proofs.report.Statement.{statement}
 use Rattle.reporter.proofs.report.Tie as tie
 
-cast-t8 : tie.Need-cast-t8
-cast-t8 c = search needs
-
 returns : tie.Need-returns
 returns c =
     let a = c .before .before .before .before .before .args in
     report-short (a .sheet .now) (a .table .now) (a .work .now) (a .output .now) (c .if1 .taken)
 
-put-sheet-requires : tie.Need-put-sheet-requires
-put-sheet-requires c κs = search needs
-
 cast-t16 : tie.Need-cast-t16
 cast-t16 c =
     let k = c .before .before .before .before .before .before .put-sheet .ensures in
     omega (arith, k .text .next, k .short)
-
-same-length : tie.Need-same-length
-same-length c = search needs
-
-same-length-2 : tie.Need-same-length-2
-same-length-2 c = search needs
-
-same-length-3 : tie.Need-same-length-3
-same-length-3 c = search needs
 
 returns-2 : tie.Need-returns-2
 returns-2 c =
@@ -39,11 +24,11 @@ pub report-spec : {M : Type 1} → statement M
 report-spec =
     tie.close
     (tie.spec
-    cast-t8
+    (λ c. search needs)
     returns
-    put-sheet-requires
+    (λ c κs. search needs)
     cast-t16
-    same-length
-    same-length-2
-    same-length-3
+    (λ c. search needs)
+    (λ c. search needs)
+    (λ c. search needs)
     returns-2)

@@ -7,15 +7,6 @@ use Rattle.tasks.proofs.Valid.{valid}
 use Rattle.reporter.proofs.states.Statement.{statement}
 use Rattle.reporter.proofs.states.Tie as tie
 
-test-requires : tie.Need-test-requires
-test-requires c κs = search needs
-
-enum-known-n : tie.Need-enum-known-n
-enum-known-n c = search needs
-
-enum-told : tie.Need-enum-told
-enum-told c = search needs
-
 returns : tie.Need-returns
 returns c = valid (c .before .before .before .before .args .set) _ (sym (c .before .before .before .test .ensures) ∙ c .before .n .given .1) .1
 
@@ -30,8 +21,8 @@ pub states-spec : {M : Type 1} → statement M
 states-spec =
     tie.close
     (tie.spec
-    test-requires
-    enum-known-n
-    enum-told
+    (λ c κs. search needs)
+    (λ c. search needs)
+    (λ c. search needs)
     returns
     returns-2)

@@ -12,21 +12,6 @@ Inv-loop cases i₀ i = i ≤ length cases
 abbrev μ-loop : tie.MeasureT-loop
 μ-loop cases i₀ i = length cases - i
 
-loop-holds : tie.Need-loop-holds Inv-loop μ-loop
-loop-holds c = omega arith
-
-read-one-requires : tie.Need-read-one-requires Inv-loop μ-loop
-read-one-requires c κs = omega arith
-
-loop-less : tie.Need-loop-less Inv-loop μ-loop
-loop-less c = omega arith
-
-loop-again : tie.Need-loop-again Inv-loop μ-loop
-loop-again c = omega arith
-
-returns : tie.Need-returns Inv-loop μ-loop
-returns c = search needs
-
 pub read-all-spec : {M : Type 1} → statement M
 read-all-spec =
-    tie.close (tie.spec Inv-loop μ-loop loop-holds read-one-requires loop-less loop-again returns)
+    tie.close (tie.spec Inv-loop μ-loop (λ c. omega arith) (λ c κs. omega arith) (λ c. omega arith) (λ c. omega arith) (λ c. search needs))

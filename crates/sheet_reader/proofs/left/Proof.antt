@@ -6,9 +6,6 @@ use borrow.Author.Needs.{needs}
 use Rattle.sheet_reader.proofs.left.Statement.{statement}
 use Rattle.sheet_reader.proofs.left.Tie as tie
 
-sub-result : tie.Need-sub-result
-sub-result c = search needs
-
 returns : tie.Need-returns
 returns c = sym (length-drop (c .before .args .at) (c .before .args .text .now))
 
@@ -16,4 +13,4 @@ returns-2 : tie.Need-returns-2
 returns-2 c = omega (arith, length-drop (c .before .args .at) (c .before .args .text .now), c .if1 .left)
 
 pub left-spec : {M : Type 1} → statement M
-left-spec = tie.close (tie.spec sub-result returns returns-2)
+left-spec = tie.close (tie.spec (λ c. search needs) returns returns-2)

@@ -8,18 +8,12 @@ use borrow.Author.Needs.{needs}
 use Rattle.sheet_reader.proofs.place_after.Statement.{statement}
 use Rattle.sheet_reader.proofs.place_after.Tie as tie
 
-left-requires : tie.Need-left-requires
-left-requires c κs = search needs
-
 returns : tie.Need-returns
 returns c =
     let c3 = c .before .before .before in
     let a = c3 .args in
     let t = drop (a .at) (a .text .now) in
     omega (arith, reach-long t (omega (arith, c .before .left .ensures, c .if1 .taken)))
-
-scan-requires : tie.Need-scan-requires
-scan-requires c κs = search needs
 
 add-result : tie.Need-add-result
 add-result c =
@@ -37,4 +31,4 @@ returns-2 c =
     omega (arith, reach-scan t (omega (arith, c3 .left .ensures, c .before .before .if1 .left)), ap (λ (s : Scanned). s .reach) (c .before .scan .ensures))
 
 pub place-after-spec : {M : Type 1} → statement M
-place-after-spec = tie.close (tie.spec left-requires returns scan-requires add-result returns-2)
+place-after-spec = tie.close (tie.spec (λ c κs. search needs) returns (λ c κs. search needs) add-result returns-2)

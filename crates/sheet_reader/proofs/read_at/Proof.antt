@@ -28,45 +28,21 @@ formed c =
     let d = c .before .before in
     read-tested (rest (d .before)) (short (d .before)) (d .scan .result) (d .scan .ensures) (not-false _ (c .if2 .left))
 
-left-requires : tie.Need-left-requires
-left-requires c κs = search needs
-
-refused-requires : tie.Need-refused-requires
-refused-requires c κs = search needs
-
 returns : tie.Need-returns
 returns c =
     let a = c .before .before .before .before .args in
     c .refused .ensures ∙ sym (read-long (drop (a .at) (a .text .now)) (omega (arith, c .before .before .left .ensures, c .before .if1 .taken)))
-
-scan-requires : tie.Need-scan-requires
-scan-requires c κs = search needs
 
 cast-t9 : tie.Need-cast-t9
 cast-t9 c =
     let d = c .before .before .before in
     omega (arith, scan-within (rest (d .before)), short (d .before), ap (λ (s : Scanned). s .reach) (d .scan .ensures))
 
-refused-requires-2 : tie.Need-refused-requires-2
-refused-requires-2 c κs = search needs
-
 returns-2 : tie.Need-returns-2
 returns-2 c =
     let e = c .before .before in
     let d = e .before .before in
     c .refused2 .ensures ∙ sym (read-faulty (rest (d .before)) (short (d .before)) (d .scan .result) (d .scan .ensures) (not-true _ (e .if2 .taken)))
-
-test-requires : tie.Need-test-requires
-test-requires c κs = search needs
-
-enum-told : tie.Need-enum-told
-enum-told c = search needs
-
-enum-known-f : tie.Need-enum-known-f
-enum-known-f c = search needs
-
-refused-requires-3 : tie.Need-refused-requires-3
-refused-requires-3 c κs = search needs
 
 returns-3 : tie.Need-returns-3
 returns-3 c =
@@ -82,16 +58,16 @@ pub read-at-spec : {M : Type 1} → statement M
 read-at-spec =
     tie.close
     (tie.spec
-    left-requires
-    refused-requires
+    (λ c κs. search needs)
+    (λ c κs. search needs)
     returns
-    scan-requires
+    (λ c κs. search needs)
     cast-t9
-    refused-requires-2
+    (λ c κs. search needs)
     returns-2
-    test-requires
-    enum-told
-    enum-known-f
-    refused-requires-3
+    (λ c κs. search needs)
+    (λ c. search needs)
+    (λ c. search needs)
+    (λ c κs. search needs)
     returns-3
     returns-4)

@@ -4,11 +4,8 @@ use borrow.Author.Needs.{needs}
 use Rattle.sheet_reader.proofs.refused.Statement.{statement}
 use Rattle.sheet_reader.proofs.refused.Tie as tie
 
-no-set-requires : tie.Need-no-set-requires
-no-set-requires c κs = search needs
-
 returns : tie.Need-returns
 returns c = rw (c .no-set .ensures) refl
 
 pub refused-spec : {M : Type 1} → statement M
-refused-spec = tie.close (tie.spec no-set-requires returns)
+refused-spec = tie.close (tie.spec (λ c κs. search needs) returns)

@@ -67,12 +67,6 @@ tasks-added c =
     ⊎-elim (λ w. w .3 ∙ ap (set (l .tasks) (l .s .count)) (w .2 .ensures) ∙ sym (ap (λ b. cond b (set (l .tasks) (l .s .count) (endedTask (l .s))) (l .tasks)) (sym (e .ensures) ∙ w .0 .taken)))
     (λ w. w .1 ∙ sym (ap (λ b. cond b (set (l .tasks) (l .s .count) (endedTask (l .s))) (l .tasks)) (sym (e .ensures) ∙ w .0 .left))) (c .if2 .came)
 
-no-set-requires : tie.Need-no-set-requires Inv-loop μ-loop
-no-set-requires c κs = search needs
-
-blank-requires : tie.Need-blank-requires Inv-loop μ-loop
-blank-requires c κs = search needs
-
 loop-holds : tie.Need-loop-holds Inv-loop μ-loop
 loop-holds c =
     let a = c .before .before .before .before .before .args in
@@ -80,17 +74,8 @@ loop-holds c =
     subst⁻¹ (λ (x : State). Past (a .text .now) (a .at) x (so-far (n .result .name) (n .result .tasks) x) (a .at)) (c .blank .ensures)
     (subst⁻¹ (λ (x : Set). Past (a .text .now) (a .at) (blankOf setWord) (record { name = x .name; count = 0; tasks = x .tasks }) (a .at)) (n .ensures) (past-first (a .text .now) (a .at)))
 
-shared-slice-read-b : tie.Need-shared-slice-read-b Inv-loop μ-loop
-shared-slice-read-b c = search needs
-
-step-requires : tie.Need-step-requires Inv-loop μ-loop
-step-requires c κs = search needs
-
 sub-stopped : tie.Need-sub-stopped Inv-loop μ-loop
 sub-stopped c = c .before .before .before .before .before .loop .inv .from
-
-stopped-requires : tie.Need-stopped-requires Inv-loop μ-loop
-stopped-requires c κs = search needs
 
 returns : tie.Need-returns Inv-loop μ-loop
 returns c =
@@ -99,18 +84,6 @@ returns c =
     let l = t .before .loop in
     let a = entered (t .before) .args in
     c .stopped .ensures ∙ past-fault (a .text .now) (a .at) (l .s) (so-far (l .name) (l .tasks) (l .s)) (l .i) (l .inv) (t .loop-test .taken) (r .step .result) (r .step .ensures) (c .before .if1 .taken)
-
-add-byte-requires : tie.Need-add-byte-requires Inv-loop μ-loop
-add-byte-requires c κs = search needs
-
-ends-task-requires : tie.Need-ends-task-requires Inv-loop μ-loop
-ends-task-requires c κs = search needs
-
-cast-k : tie.Need-cast-k Inv-loop μ-loop
-cast-k c = search needs
-
-ended-task-requires : tie.Need-ended-task-requires Inv-loop μ-loop
-ended-task-requires c κs = search needs
 
 mul-tasks : tie.Need-mul-tasks Inv-loop μ-loop
 mul-tasks c = omega (arith, in-range (c .before .before))
@@ -137,14 +110,8 @@ loop-again c =
     subst⁻¹ (λ x. Past (a .text .now) (a .at) n x (l .i + 1)) k
     (past-more (a .text .now) (a .at) (l .s) (so-far (l .name) (l .tasks) (l .s)) (l .i) (l .inv) (t .loop-test .taken) n (r .step .ensures) (d .before .before .if1 .left))
 
-is-whole-requires : tie.Need-is-whole-requires Inv-loop μ-loop
-is-whole-requires c κs = search needs
-
 sub-stopped-2 : tie.Need-sub-stopped-2 Inv-loop μ-loop
 sub-stopped-2 c = c .before .before .before .loop .inv .from
-
-stopped-requires-2 : tie.Need-stopped-requires-2 Inv-loop μ-loop
-stopped-requires-2 c κs = search needs
 
 returns-2 : tie.Need-returns-2 Inv-loop μ-loop
 returns-2 c =
@@ -163,26 +130,26 @@ scan-spec =
     (tie.spec
     Inv-loop
     μ-loop
-    no-set-requires
-    blank-requires
+    (λ c κs. search needs)
+    (λ c κs. search needs)
     loop-holds
-    shared-slice-read-b
-    step-requires
+    (λ c. search needs)
+    (λ c κs. search needs)
     sub-stopped
-    stopped-requires
+    (λ c κs. search needs)
     returns
-    add-byte-requires
-    ends-task-requires
-    cast-k
-    ended-task-requires
+    (λ c κs. search needs)
+    (λ c κs. search needs)
+    (λ c. search needs)
+    (λ c κs. search needs)
     mul-tasks
     array-set-from-tasks
     add-i
     loop-less
     loop-again
-    is-whole-requires
+    (λ c κs. search needs)
     sub-stopped-2
-    stopped-requires-2
+    (λ c κs. search needs)
     returns-2
     sub-t29
     returns-3)

@@ -5,11 +5,8 @@ use borrow.Author.Needs.{needs}
 use Rattle.sheet_scan.proofs.stopped.Statement.{statement}
 use Rattle.sheet_scan.proofs.stopped.Tie as tie
 
-no-set-requires : tie.Need-no-set-requires
-no-set-requires c κs = search needs
-
 returns : tie.Need-returns
 returns c = ap (λ s. record { whole = false; reach = c .before .args .reach; set = s }) (c .no-set .ensures)
 
 pub stopped-spec : {M : Type 1} → statement M
-stopped-spec = tie.close (tie.spec no-set-requires returns)
+stopped-spec = tie.close (tie.spec (λ c κs. search needs) returns)

@@ -26,34 +26,13 @@ module _ (c : tie.After-put-sheet) where
   first : take (c .put-sheet .result) (c .put-sheet .last .0) ≡ textOf (c .before .before .before .args .set)
   first = puts-take (c .put-sheet .ensures) (omega (arith, short (c .before .before .before)))
 
-slice-aggregate-put-sheet : tie.Need-slice-aggregate-put-sheet
-slice-aggregate-put-sheet c = search needs
-
-put-sheet-requires : tie.Need-put-sheet-requires
-put-sheet-requires c κs = search needs
-
-cast-t9 : tie.Need-cast-t9
-cast-t9 c = search needs
-
 returns : tie.Need-returns
 returns c =
     let a = c .before .before .before .before .before .args in
     placed-short (textOf (a .set)) (a .buf .now) (c .before .before .put-sheet .result) (size (c .before .before)) (c .if1 .taken)
 
-array-share-prefix-page : tie.Need-array-share-prefix-page
-array-share-prefix-page c = search needs
-
 slice-aggregate-put-word : tie.Need-slice-aggregate-put-word
 slice-aggregate-put-word c = let p = c .before .before .before .before in size p ∙ sym (ap length (first p))
-
-put-word-requires : tie.Need-put-word-requires
-put-word-requires c κs = search needs
-
-cast-t15 : tie.Need-cast-t15
-cast-t15 c = search needs
-
-same-length : tie.Need-same-length
-same-length c = search needs
 
 returns-2 : tie.Need-returns-2
 returns-2 c =
@@ -69,13 +48,13 @@ pub place-spec : {M : Type 1} → statement M
 place-spec =
     tie.close
     (tie.spec
-    slice-aggregate-put-sheet
-    put-sheet-requires
-    cast-t9
+    (λ c. search needs)
+    (λ c κs. search needs)
+    (λ c. search needs)
     returns
-    array-share-prefix-page
+    (λ c. search needs)
     slice-aggregate-put-word
-    put-word-requires
-    cast-t15
-    same-length
+    (λ c κs. search needs)
+    (λ c. search needs)
+    (λ c. search needs)
     returns-2)

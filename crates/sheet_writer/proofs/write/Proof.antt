@@ -6,23 +6,11 @@ use Rattle.sheet_writer.proofs.Placed.{write-tested}
 use Rattle.sheet_writer.proofs.write.Statement.{statement}
 use Rattle.sheet_writer.proofs.write.Tie as tie
 
-test-requires : tie.Need-test-requires
-test-requires c κs = search needs
-
-enum-told : tie.Need-enum-told
-enum-told c = search needs
-
 place-requires : tie.Need-place-requires
 place-requires c κs =
     let c3 = c .before .before .before in
     let c5 = c3 .before .before in
     passed (c5 .args .set) _ (sym (c3 .test .ensures) ∙ c .before .enum-told .given .1)
-
-enum-known-f : tie.Need-enum-known-f
-enum-known-f c = search needs
-
-same-length : tie.Need-same-length
-same-length c = search needs
 
 returns : tie.Need-returns
 returns c =
@@ -40,4 +28,4 @@ returns-2 c =
 pub write-spec : {M : Type 1} → statement M
 write-spec =
     tie.close
-    (tie.spec test-requires enum-told place-requires enum-known-f same-length returns returns-2)
+    (tie.spec (λ c κs. search needs) (λ c. search needs) place-requires (λ c. search needs) (λ c. search needs) returns returns-2)

@@ -12,21 +12,12 @@ use Rattle.texts.proofs.put_name.Tie as tie
 within : (c : tie.After-name-length) → c .name-length .result ≤ length (c .before .before .args .t3)
 within c = omega (arith, characters-le (c .before .before .args .t3), c .name-length .ensures)
 
-name-length-requires : tie.Need-name-length-requires
-name-length-requires c κs = search needs
-
 array-share-prefix-name : tie.Need-array-share-prefix-name
 array-share-prefix-name c = within (c .before)
 
 slice-aggregate-put-word : tie.Need-slice-aggregate-put-word
 slice-aggregate-put-word c =
     omega (arith, length-take (c .before .before .name-length .result) (c .before .before .before .before .args .t3), within (c .before .before))
-
-put-word-requires : tie.Need-put-word-requires
-put-word-requires c κs = search needs
-
-same-length : tie.Need-same-length
-same-length c = search needs
 
 returns : tie.Need-returns
 returns c =
@@ -37,9 +28,9 @@ pub put-name-spec : {M : Type 1} → statement M
 put-name-spec =
     tie.close
     (tie.spec
-    name-length-requires
+    (λ c κs. search needs)
     array-share-prefix-name
     slice-aggregate-put-word
-    put-word-requires
-    same-length
+    (λ c κs. search needs)
+    (λ c. search needs)
     returns)

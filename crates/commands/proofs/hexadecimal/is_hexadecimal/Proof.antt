@@ -17,19 +17,10 @@ Inv-loop word i₀ i = (i ≤ length word) × (each isHex word ≡ each isHex (d
 abbrev μ-loop : tie.MeasureT-loop
 μ-loop word i₀ i = length word - i
 
-shared-slice-read-value : tie.Need-shared-slice-read-value Inv-loop μ-loop
-shared-slice-read-value c = omega arith
-
 returns : tie.Need-returns Inv-loop μ-loop
 returns c = let p = c .before .before .before .before in
     let a = p .before .before .args in
     sym (p .loop .inv .1 ∙ each-fails isHex (a .word .now) (p .loop .i) (omega arith) (ap not (eq-eqb _ _ (sym (c .before .value .ensures .0) ∙ c .if1 .taken))))
-
-add-i : tie.Need-add-i Inv-loop μ-loop
-add-i c = omega arith
-
-loop-less : tie.Need-loop-less Inv-loop μ-loop
-loop-less c = omega arith
 
 loop-again : tie.Need-loop-again Inv-loop μ-loop
 loop-again c = let p = c .before .before .before .before in
@@ -48,10 +39,10 @@ is-hexadecimal-spec =
     Inv-loop
     μ-loop
     (λ c. search needs)
-    shared-slice-read-value
+    (λ c. omega arith)
     (λ c κs. search needs)
     returns
-    add-i
-    loop-less
+    (λ c. omega arith)
+    (λ c. omega arith)
     loop-again
     returns-2)

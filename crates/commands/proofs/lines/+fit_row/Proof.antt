@@ -41,8 +41,6 @@ split t m = record {
   word = m .before .find .ensures .0;
   inRow = omega arith;
   inLine = omega arith;
-  rowHas = m .find2 .ensures .1 .1;
-  lineHas = m .before .find .ensures .1 .1;
 }
 
 fit-row-returns : (t : ℕ) → fit-row-lts.Need-returns (calls t) (fit-row-at t) fit-row.Post

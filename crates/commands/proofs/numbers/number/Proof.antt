@@ -23,9 +23,6 @@ returns c = sym (number-begun _ _ _ (sym (c .before .is-well-begun .ensures) ∙
 loop-holds : tie.Need-loop-holds Inv-loop μ-loop
 loop-holds c = (omega arith, refl, refl, sym (c .before .is-well-begun .ensures) ∙ not-false _ (c .if1 .left))
 
-shared-slice-read-b : tie.Need-shared-slice-read-b Inv-loop μ-loop
-shared-slice-read-b c = omega arith
-
 returns-2 : tie.Need-returns-2 Inv-loop μ-loop
 returns-2 c = let p = c .before .before .before .before in
     let a = p .before .before .before .before .args in
@@ -38,12 +35,6 @@ returns-3 c = let p = c .before .before .before .before .before in
 
 longer-requires : tie.Need-longer-requires Inv-loop μ-loop
 longer-requires c κs = (omega arith, digit-low _ (sym (c .before .before .is-digit .ensures) ∙ not-false _ (c .before .if2 .left)))
-
-add-i : tie.Need-add-i Inv-loop μ-loop
-add-i c = omega arith
-
-loop-less : tie.Need-loop-less Inv-loop μ-loop
-loop-less c = omega arith
 
 loop-again : tie.Need-loop-again Inv-loop μ-loop
 loop-again c = let p = c .before .before .before .before .before .before in
@@ -65,9 +56,6 @@ returns-5 c = let p = c .before .before .before in
     let a = p .before .before .before .before .args in
     sym (number-high _ _ _ (omega (arith, p .loop .inv .2, decimal-end (a .word .now) (p .loop .i) (p .loop .v) (omega arith))))
 
-cast-t14 : tie.Need-cast-t14 Inv-loop μ-loop
-cast-t14 c = omega arith
-
 returns-6 : tie.Need-returns-6 Inv-loop μ-loop
 returns-6 c = let p = c .before .before .before in
     let a = p .before .before .before .before .args in
@@ -83,15 +71,15 @@ number-spec =
     (λ c κs. search needs)
     returns
     loop-holds
-    shared-slice-read-b
+    (λ c. omega arith)
     (λ c κs. search needs)
     returns-2
     returns-3
     longer-requires
-    add-i
-    loop-less
+    (λ c. omega arith)
+    (λ c. omega arith)
     loop-again
     returns-4
     returns-5
-    cast-t14
+    (λ c. omega arith)
     returns-6)

@@ -2,7 +2,7 @@
 use mathlib.Core.Path.{_≡_, refl, sym, _∙_}
 use Prim.Native.Nat.{_-_, _<_, _≤_}
 use lib.ListN.{length, drop}
-use Rattle.desk_buffers.specs.Bytes.{adlerFrom}
+use Rattle.desk_buffers.specs.Bytes.{modulus, adlerFrom}
 use Rattle.desk_buffers.proofs.BytesLaws.{adler-next, adler-end}
 use borrow.Author.Needs.{needs}
 use native.Mathlib.Omega.{arith}
@@ -10,7 +10,7 @@ use Rattle.desk_buffers.proofs.bytes.adler.Statement.{statement}
 use Rattle.desk_buffers.proofs.bytes.adler.Tie as tie
 
 abbrev Inv-loop : tie.InvT-loop
-Inv-loop buf a₀ b₀ i₀ a b i = (i ≤ length buf) × (a < 65521) × (b < 65521) × (adlerFrom a b (drop i buf) ≡ adlerFrom 1 0 buf)
+Inv-loop buf a₀ b₀ i₀ a b i = (i ≤ length buf) × (a < modulus) × (b < modulus) × (adlerFrom a b (drop i buf) ≡ adlerFrom 1 0 buf)
 
 abbrev μ-loop : tie.MeasureT-loop
 μ-loop buf a₀ b₀ i₀ a b i = length buf - i

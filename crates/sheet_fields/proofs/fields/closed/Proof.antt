@@ -17,28 +17,29 @@ past-runs c = rw (ne-eqb _ 5 (c .before .before .if1 .left), ne-eqb _ 6 (c .if2 
 
 returns : tie.Need-returns
 unfolding closedOf
-returns c = rw (eq-eqb _ 5 (c .if1 .taken)) refl
-
-push-requires : tie.Need-push-requires
-push-requires c κs = search needs
+returns c = rw (c .begin .ensures, eq-eqb _ _ (c .before .if1 .taken)) refl
 
 returns-2 : tie.Need-returns-2
 unfolding closedOf
 returns-2 c =
-    rw (c .push .ensures, ne-eqb _ 5 (c .before .before .before .if1 .left), eq-eqb _ 6 (c .before .if2 .taken)) refl
-
-blank-requires : tie.Need-blank-requires
-blank-requires c κs = search needs
+    rw (c .begin2 .ensures, c .before .push .ensures, ne-eqb _ 5 (c .before .before .before .before .if1 .left), eq-eqb _ 6 (c .before .before .if2 .taken)) refl
 
 returns-3 : tie.Need-returns-3
 returns-3 c = rw (c .blank .ensures, past-runs (c .before .before .before), le-ltb _ 7 (c .before .if3 .taken)) refl
-
-add-t4 : tie.Need-add-t4
-add-t4 c = search needs
 
 returns-4 : tie.Need-returns-4
 returns-4 c = rw (past-runs (c .before .before .before), lt-ltb _ 7 (c .before .if3 .left)) refl
 
 pub closed-spec : {M : Type 1} → statement M
 closed-spec =
-    tie.close (tie.spec returns push-requires returns-2 blank-requires returns-3 add-t4 returns-4)
+    tie.close
+    (tie.spec
+    (λ c κs. search needs)
+    returns
+    (λ c κs. search needs)
+    (λ c κs. search needs)
+    returns-2
+    (λ c κs. search needs)
+    returns-3
+    (λ c. search needs)
+    returns-4)

@@ -26,12 +26,6 @@ past-end c =
     let a = e2 .before .before .before .before .args in
     rw (past-digit (e2 .before .before), begun e2, ne-eqb (a .b) (enderOf (a .s .mode)) (λ e. c .if3 .left (e ∙ sym (c .before .ender .ensures)))) refl
 
-more-digit-requires : tie.Need-more-digit-requires
-more-digit-requires c κs = search needs
-
-move-to-requires : tie.Need-move-to-requires
-move-to-requires c κs = search needs
-
 returns : tie.Need-returns
 unfolding fieldOf
 returns c =
@@ -39,18 +33,9 @@ returns c =
     let a = d .before .args in
     rw (c .move-to .ensures, d .more-digit .ensures, lt-ltb 0 (digit (a .s .at) (a .b)) (subst (λ n. 0 < n) (d .more-digit .ensures) (c .before .if1 .taken))) refl
 
-blank-requires : tie.Need-blank-requires
-blank-requires c κs = search needs
-
 returns-2 : tie.Need-returns-2
 unfolding fieldOf
 returns-2 c = rw (c .blank .ensures, past-digit (c .before .before .before), c .before .if2 .taken) refl
-
-ender-requires : tie.Need-ender-requires
-ender-requires c κs = search needs
-
-closed-requires : tie.Need-closed-requires
-closed-requires c κs = search needs
 
 returns-3 : tie.Need-returns-3
 unfolding fieldOf
@@ -59,22 +44,13 @@ returns-3 c =
     let a = e2 .before .before .before .before .args in
     rw (c .closed .ensures, past-digit (e2 .before .before), begun e2, eq-eqb (a .b) (enderOf (a .s .mode)) (c .before .if3 .taken ∙ c .before .before .ender .ensures)) refl
 
-blank-requires-2 : tie.Need-blank-requires-2
-blank-requires-2 c κs = search needs
-
 returns-4 : tie.Need-returns-4
 returns-4 c = rw (c .blank2 .ensures, past-end (c .before .before .before), le-ltb 5 _ (c .before .if4 .taken)) refl
-
-comma-requires : tie.Need-comma-requires
-comma-requires c κs = search needs
 
 returns-5 : tie.Need-returns-5
 returns-5 c =
     let e4 = c .before .before in
     rw (c .comma .ensures, past-end (e4 .before .before), lt-ltb 5 _ (e4 .if4 .left), eq-eqb _ 44 (c .before .if5 .taken)) refl
-
-blank-requires-3 : tie.Need-blank-requires-3
-blank-requires-3 c κs = search needs
 
 returns-6 : tie.Need-returns-6
 returns-6 c =
@@ -85,17 +61,17 @@ pub in-field-spec : {M : Type 1} → statement M
 in-field-spec =
     tie.close
     (tie.spec
-    more-digit-requires
-    move-to-requires
+    (λ c κs. search needs)
+    (λ c κs. search needs)
     returns
-    blank-requires
+    (λ c κs. search needs)
     returns-2
-    ender-requires
-    closed-requires
+    (λ c κs. search needs)
+    (λ c κs. search needs)
     returns-3
-    blank-requires-2
+    (λ c κs. search needs)
     returns-4
-    comma-requires
+    (λ c κs. search needs)
     returns-5
-    blank-requires-3
+    (λ c κs. search needs)
     returns-6)

@@ -16,18 +16,6 @@ returns-2 : tie.Need-returns-2
 unfolding digit
 returns-2 c = simp (le-leb _ _ (c .before .if1 .left), lt-leb _ _ (c .if2 .taken))
 
-mul-n : tie.Need-mul-n
-mul-n c = search needs
-
-cast-n : tie.Need-cast-n
-cast-n c = search needs
-
-add-n : tie.Need-add-n
-add-n c = search needs
-
-cast-result : tie.Need-cast-result
-cast-result c = search needs
-
 returns-3 : tie.Need-returns-3
 unfolding digit
 returns-3 c =
@@ -44,4 +32,4 @@ returns-4 c =
 
 pub more-digit-spec : {M : Type 1} → statement M
 more-digit-spec =
-    tie.close (tie.spec returns returns-2 mul-n cast-n add-n cast-result returns-3 returns-4)
+    tie.close (tie.spec returns returns-2 (λ c. search needs) (λ c. search needs) (λ c. search needs) (λ c. search needs) returns-3 returns-4)

@@ -18,18 +18,6 @@ returns-2 c =
     let a = c .before .before .args in
     rw (lt-ltb (a .last) (a .v) (omega (arith, c .before .if1 .left)), lt-leb (a .v) 16 (c .if2 .taken)) refl
 
-sub-wrapping-add-u16 : tie.Need-sub-wrapping-add-u16
-sub-wrapping-add-u16 c = search needs
-
-cast-wrapping-add-u16 : tie.Need-cast-wrapping-add-u16
-cast-wrapping-add-u16 c = search needs
-
-shl-wrapping-add-u16 : tie.Need-shl-wrapping-add-u16
-shl-wrapping-add-u16 c = search needs
-
-wrapping-add-u16-requires : tie.Need-wrapping-add-u16-requires
-wrapping-add-u16-requires c κs = search needs
-
 returns-3 : tie.Need-returns-3
 unfolding pushOf
 returns-3 c =
@@ -43,8 +31,8 @@ push-spec =
     (tie.spec
     returns
     returns-2
-    sub-wrapping-add-u16
-    cast-wrapping-add-u16
-    shl-wrapping-add-u16
-    wrapping-add-u16-requires
+    (λ c. search needs)
+    (λ c. search needs)
+    (λ c. search needs)
+    (λ c κs. search needs)
     returns-3)

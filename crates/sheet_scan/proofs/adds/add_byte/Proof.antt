@@ -11,12 +11,6 @@ returns c = rw (ne-eqb _ 3 (c .if1 .taken)) refl
 returns-2 : tie.Need-returns-2
 returns-2 c = rw (eq-eqb _ 3 (c .before .before .if1 .left), ne-eqb _ 3 (c .if2 .taken)) refl
 
-cast-at : tie.Need-cast-at
-cast-at c = search needs
-
-element-write-name : tie.Need-element-write-name
-element-write-name c = search needs
-
 returns-3 : tie.Need-returns-3
 returns-3 c =
     let e2 = c .before .before in
@@ -29,4 +23,4 @@ returns-4 c =
 
 pub add-byte-spec : {M : Type 1} → statement M
 add-byte-spec =
-    tie.close (tie.spec returns returns-2 cast-at element-write-name returns-3 returns-4)
+    tie.close (tie.spec returns returns-2 (λ c. search needs) (λ c. search needs) returns-3 returns-4)

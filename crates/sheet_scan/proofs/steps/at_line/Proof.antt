@@ -6,32 +6,20 @@ use borrow.Author.Needs.{needs}
 use Rattle.sheet_scan.proofs.steps.at_line.Statement.{statement}
 use Rattle.sheet_scan.proofs.steps.at_line.Tie as tie
 
-blank-requires : tie.Need-blank-requires
-blank-requires c κs = search needs
-
 returns : tie.Need-returns
 unfolding lineStart
 returns c = rw (c .blank .ensures, le-ltb _ 7 (c .before .if1 .taken)) refl
-
-move-to-requires : tie.Need-move-to-requires
-move-to-requires c κs = search needs
 
 returns-2 : tie.Need-returns-2
 unfolding lineStart
 returns-2 c =
     rw (c .move-to .ensures, lt-ltb _ 7 (c .before .before .if1 .left), eq-eqb _ 104 (c .before .if2 .taken)) refl
 
-move-to-requires-2 : tie.Need-move-to-requires-2
-move-to-requires-2 c κs = search needs
-
 returns-3 : tie.Need-returns-3
 unfolding lineStart
 returns-3 c =
     let e2 = c .before .before in
     rw (c .move-to2 .ensures, lt-ltb _ 7 (e2 .before .if1 .left), ne-eqb _ 104 (e2 .if2 .left), eq-eqb _ 115 (c .before .if3 .taken)) refl
-
-blank-requires-2 : tie.Need-blank-requires-2
-blank-requires-2 c κs = search needs
 
 returns-4 : tie.Need-returns-4
 unfolding lineStart
@@ -43,11 +31,11 @@ pub at-line-spec : {M : Type 1} → statement M
 at-line-spec =
     tie.close
     (tie.spec
-    blank-requires
+    (λ c κs. search needs)
     returns
-    move-to-requires
+    (λ c κs. search needs)
     returns-2
-    move-to-requires-2
+    (λ c κs. search needs)
     returns-3
-    blank-requires-2
+    (λ c κs. search needs)
     returns-4)

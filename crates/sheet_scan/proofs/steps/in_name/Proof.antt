@@ -15,23 +15,11 @@ past-character : (c : tie.Else1) → let a = c .before .before .args in nameOf (
 unfolding nameOf
 past-character c = rw (sym (c .before .name-byte .ensures) ∙ c .if1 .left) refl
 
-name-byte-requires : tie.Need-name-byte-requires
-name-byte-requires c κs = search needs
-
-add-move-to : tie.Need-add-move-to
-add-move-to c = search needs
-
-move-to-requires : tie.Need-move-to-requires
-move-to-requires c κs = search needs
-
 returns : tie.Need-returns
 unfolding nameOf
 returns c =
     let c4 = c .before .before .before .before in
     rw (c .move-to .ensures, sym (c4 .before .name-byte .ensures) ∙ c4 .if1 .taken, lt-ltb _ 16 (c .before .before .if2 .taken)) refl
-
-blank-requires : tie.Need-blank-requires
-blank-requires c κs = search needs
 
 returns-2 : tie.Need-returns-2
 unfolding nameOf
@@ -39,22 +27,13 @@ returns-2 c =
     let c3 = c .before .before .before in
     rw (c .blank .ensures, sym (c3 .before .name-byte .ensures) ∙ c3 .if1 .taken, le-ltb _ 16 (c .before .if2 .left)) refl
 
-blank-requires-2 : tie.Need-blank-requires-2
-blank-requires-2 c κs = search needs
-
 returns-3 : tie.Need-returns-3
 returns-3 c = rw (c .blank2 .ensures, past-character (c .before .before .before), c .before .if3 .taken) refl
-
-move-to-requires-2 : tie.Need-move-to-requires-2
-move-to-requires-2 c κs = search needs
 
 returns-4 : tie.Need-returns-4
 returns-4 c =
     let e3 = c .before .before in
     rw (c .move-to2 .ensures, past-character (e3 .before .before), lt-ltb 0 _ (some _ (e3 .if3 .left)), eq-eqb _ 10 (c .before .if4 .taken)) refl
-
-blank-requires-3 : tie.Need-blank-requires-3
-blank-requires-3 c κs = search needs
 
 returns-5 : tie.Need-returns-5
 returns-5 c =
@@ -65,15 +44,15 @@ pub in-name-spec : {M : Type 1} → statement M
 in-name-spec =
     tie.close
     (tie.spec
-    name-byte-requires
-    add-move-to
-    move-to-requires
+    (λ c κs. search needs)
+    (λ c. search needs)
+    (λ c κs. search needs)
     returns
-    blank-requires
+    (λ c κs. search needs)
     returns-2
-    blank-requires-2
+    (λ c κs. search needs)
     returns-3
-    move-to-requires-2
+    (λ c κs. search needs)
     returns-4
-    blank-requires-3
+    (λ c κs. search needs)
     returns-5)

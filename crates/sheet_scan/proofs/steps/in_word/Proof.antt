@@ -27,12 +27,6 @@ ended c =
     let s = e1 .before .before .before .args .s in
     rw (inside e1, matches e2, le-ltb (s .at + 1) (length (wordAt (s .mode))) (subst (λ n. n ≤ s .at + 1) (e1 .before .before .word-length .ensures) (c .if3 .left))) refl
 
-word-length-requires : tie.Need-word-length-requires
-word-length-requires c κs = search needs
-
-blank-requires : tie.Need-blank-requires
-blank-requires c κs = search needs
-
 returns : tie.Need-returns
 unfolding wordOf
 returns c =
@@ -42,9 +36,6 @@ returns c =
 
 letter-requires : tie.Need-letter-requires
 letter-requires c κs = ltb-true _ _ (inside c)
-
-blank-requires-2 : tie.Need-blank-requires-2
-blank-requires-2 c κs = search needs
 
 returns-2 : tie.Need-returns-2
 unfolding wordOf
@@ -59,9 +50,6 @@ add-n c =
     let c6 = c5 .before in
     omega (arith, word-short (c6 .args .s .mode), c5 .word-length .ensures)
 
-move-to-requires : tie.Need-move-to-requires
-move-to-requires c κs = search needs
-
 returns-3 : tie.Need-returns-3
 unfolding wordOf
 returns-3 c =
@@ -69,9 +57,6 @@ returns-3 c =
     let e1 = e2 .before .before in
     let s = e1 .before .before .before .args .s in
     rw (c .move-to .ensures, inside e1, matches e2, lt-ltb (s .at + 1) (length (wordAt (s .mode))) (subst (λ n. s .at + 1 < n) (e1 .before .before .word-length .ensures) (c .before .if3 .taken))) refl
-
-move-to-requires-2 : tie.Need-move-to-requires-2
-move-to-requires-2 c κs = search needs
 
 returns-4 : tie.Need-returns-4
 returns-4 c = rw (c .move-to2 .ensures, ended (c .before .before .before), eq-eqb _ 0 (c .before .if4 .taken)) refl
@@ -90,16 +75,16 @@ pub in-word-spec : {M : Type 1} → statement M
 in-word-spec =
     tie.close
     (tie.spec
-    word-length-requires
-    blank-requires
+    (λ c κs. search needs)
+    (λ c κs. search needs)
     returns
     letter-requires
-    blank-requires-2
+    (λ c κs. search needs)
     returns-2
     add-n
-    move-to-requires
+    (λ c κs. search needs)
     returns-3
-    move-to-requires-2
+    (λ c κs. search needs)
     returns-4
     returns-5
     returns-6)

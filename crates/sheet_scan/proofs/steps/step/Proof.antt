@@ -20,22 +20,13 @@ past-line c =
     let e2 = c .before .before in
     rw (past-word (e2 .before .before), ne-eqb _ 3 (e2 .if2 .left), ne-eqb _ 4 (c .if3 .left)) refl
 
-in-word-requires : tie.Need-in-word-requires
-in-word-requires c κs = search needs
-
 returns : tie.Need-returns
 unfolding stepOf
 returns c = rw (c .in-word .ensures, lt-ltb _ 3 (c .before .if1 .taken)) refl
 
-in-name-requires : tie.Need-in-name-requires
-in-name-requires c κs = search needs
-
 returns-2 : tie.Need-returns-2
 unfolding stepOf
 returns-2 c = rw (c .in-name .ensures, past-word (c .before .before .before), eq-eqb _ 3 (c .before .if2 .taken)) refl
-
-at-line-requires : tie.Need-at-line-requires
-at-line-requires c κs = search needs
 
 returns-3 : tie.Need-returns-3
 unfolding stepOf
@@ -43,14 +34,8 @@ returns-3 c =
     let e2 = c .before .before .before in
     rw (c .at-line .ensures, past-word (e2 .before .before), ne-eqb _ 3 (e2 .if2 .left), eq-eqb _ 4 (c .before .if3 .taken)) refl
 
-in-field-requires : tie.Need-in-field-requires
-in-field-requires c κs = search needs
-
 returns-4 : tie.Need-returns-4
 returns-4 c = rw (c .in-field .ensures, past-line (c .before .before .before), lt-ltb _ 8 (c .before .if4 .taken)) refl
-
-blank-requires : tie.Need-blank-requires
-blank-requires c κs = search needs
 
 returns-5 : tie.Need-returns-5
 returns-5 c = rw (c .blank .ensures, past-line (c .before .before .before), le-ltb _ 8 (c .before .if4 .left)) refl
@@ -59,13 +44,13 @@ pub step-spec : {M : Type 1} → statement M
 step-spec =
     tie.close
     (tie.spec
-    in-word-requires
+    (λ c κs. search needs)
     returns
-    in-name-requires
+    (λ c κs. search needs)
     returns-2
-    at-line-requires
+    (λ c κs. search needs)
     returns-3
-    in-field-requires
+    (λ c κs. search needs)
     returns-4
-    blank-requires
+    (λ c κs. search needs)
     returns-5)

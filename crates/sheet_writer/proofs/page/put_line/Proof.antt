@@ -6,29 +6,14 @@ use Rattle.sheet_form.specs.Form.{lineText}
 use Rattle.sheet_writer.proofs.page.put_line.Statement.{statement}
 use Rattle.sheet_writer.proofs.page.put_line.Tie as tie
 
-put-kind-requires : tie.Need-put-kind-requires
-put-kind-requires c κs = search needs
-
 put-number-requires : tie.Need-put-number-requires
 put-number-requires c κs = omega (arith, c .before .before .before .before .before .before .pre .deadline .1)
-
-put-requires : tie.Need-put-requires
-put-requires c κs = search needs
 
 put-list-requires : tie.Need-put-list-requires
 put-list-requires c κs = c .before .before .before .before .before .before .before .before .before .before .before .before .before .before .pre .runs
 
-put-requires-2 : tie.Need-put-requires-2
-put-requires-2 c κs = search needs
-
 put-list-requires-2 : tie.Need-put-list-requires-2
 put-list-requires-2 c κs = c .before .before .before .before .before .before .before .before .before .before .before .before .before .before .before .before .before .before .before .before .before .before .pre .gaps
-
-put-requires-3 : tie.Need-put-requires-3
-put-requires-3 c κs = search needs
-
-same-length : tie.Need-same-length
-same-length c = search needs
 
 returns : tie.Need-returns
 unfolding lineText
@@ -41,12 +26,12 @@ pub put-line-spec : {M : Type 1} → statement M
 put-line-spec =
     tie.close
     (tie.spec
-    put-kind-requires
+    (λ c κs. search needs)
     put-number-requires
-    put-requires
+    (λ c κs. search needs)
     put-list-requires
-    put-requires-2
+    (λ c κs. search needs)
     put-list-requires-2
-    put-requires-3
-    same-length
+    (λ c κs. search needs)
+    (λ c. search needs)
     returns)

@@ -19,9 +19,6 @@ Inv-loop page₀ at list top j₀ v₀ page j v = (1 ≤ v) × (v ≤ top) × Pu
 abbrev μ-loop : tie.MeasureT-loop
 μ-loop page₀ at list top j₀ v₀ page j v = top - v
 
-longest-requires : tie.Need-longest-requires Inv-loop μ-loop
-longest-requires c κs = search needs
-
 cast-top : tie.Need-cast-top Inv-loop μ-loop
 cast-top c = omega (arith, c .longest .ensures, longest-le (c .before .before .args .list))
 
@@ -65,7 +62,7 @@ put-list-spec =
     (tie.spec
     Inv-loop
     μ-loop
-    longest-requires
+    (λ c κs. search needs)
     cast-top
     loop-holds
     put-value-requires

@@ -23,21 +23,6 @@ abbrev μ-loop : tie.MeasureT-loop
 valid : (b : tie.Start Inv-loop μ-loop) → Valid (b .args .t2)
 valid b = passed-valid (b .args .t2) (b .pre)
 
-slice-aggregate-put-word : tie.Need-slice-aggregate-put-word Inv-loop μ-loop
-slice-aggregate-put-word c = search needs
-
-put-word-requires : tie.Need-put-word-requires Inv-loop μ-loop
-put-word-requires c κs = search needs
-
-put-name-requires : tie.Need-put-name-requires Inv-loop μ-loop
-put-name-requires c κs = search needs
-
-put-requires : tie.Need-put-requires Inv-loop μ-loop
-put-requires c κs = search needs
-
-cast-n : tie.Need-cast-n Inv-loop μ-loop
-cast-n c = search needs
-
 loop-holds : tie.Need-loop-holds Inv-loop μ-loop
 loop-holds c = (omega arith, puts-none _ _)
 
@@ -81,11 +66,11 @@ put-sheet-spec =
     (tie.spec
     Inv-loop
     μ-loop
-    slice-aggregate-put-word
-    put-word-requires
-    put-name-requires
-    put-requires
-    cast-n
+    (λ c. search needs)
+    (λ c κs. search needs)
+    (λ c κs. search needs)
+    (λ c κs. search needs)
+    (λ c. search needs)
     loop-holds
     mul-t
     element-copy-out-t

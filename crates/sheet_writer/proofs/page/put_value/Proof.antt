@@ -7,22 +7,10 @@ use Rattle.sheet_writer.proofs.Pages.{value-none, value-some}
 use Rattle.sheet_writer.proofs.page.put_value.Statement.{statement}
 use Rattle.sheet_writer.proofs.page.put_value.Tie as tie
 
-has-requires : tie.Need-has-requires
-has-requires c κs = search needs
-
 returns : tie.Need-returns
 returns c =
     let a = c .before .before .before .args in
     puts-as (puts-none _ _) (value-none (a .list) (a .v) (sym (c .before .has .ensures) ∙ not-true _ (c .if1 .taken)))
-
-put-number-requires : tie.Need-put-number-requires
-put-number-requires c κs = search needs
-
-put-requires : tie.Need-put-requires
-put-requires c κs = search needs
-
-same-length : tie.Need-same-length
-same-length c = search needs
 
 returns-2 : tie.Need-returns-2
 returns-2 c =
@@ -33,9 +21,9 @@ pub put-value-spec : {M : Type 1} → statement M
 put-value-spec =
     tie.close
     (tie.spec
-    has-requires
+    (λ c κs. search needs)
     returns
-    put-number-requires
-    put-requires
-    same-length
+    (λ c κs. search needs)
+    (λ c κs. search needs)
+    (λ c. search needs)
     returns-2)
