@@ -10,7 +10,8 @@ use lib.Dec.{eqb, leb}
 use lib.ListN.{take, length-drop}
 use Rattle.commands.specs.declared.forms.Values.{Values}
 use Rattle.commands.specs.declared.lines.Command.{Command}
-use Rattle.commands.specs.Buffers.{mostOf}
+use Rattle.commands.specs.Buffers.{tableMost, fileMost, textMost, mostOf}
+use Rattle.commands.specs.Buffers as buffer
 use Rattle.commands.specs.Kinds as kind
 use Rattle.commands.specs.Taken.{Within}
 use Rattle.tasks.specs.declared.sets.Set.{Set}
@@ -35,23 +36,23 @@ length-fits k vs n m p q h = step (eqb k kind.fill) (eqb k kind.cut) refl refl
     step false true e g = q (eqb-true k kind.cut g)
     step false false e g = h
 
-most-table : (b : ℕ) → b ≡ 0 → mostOf b ≡ 65536
+most-table : (b : ℕ) → b ≡ buffer.table → mostOf b ≡ tableMost
 unfolding mostOf
 most-table b e = rw e
 
-most-work : (b : ℕ) → b ≡ 1 → mostOf b ≡ 65536
+most-work : (b : ℕ) → b ≡ buffer.work → mostOf b ≡ tableMost
 unfolding mostOf
 most-work b e = rw e
 
-most-file : (b : ℕ) → b ≡ 2 → mostOf b ≡ 70000
+most-file : (b : ℕ) → b ≡ buffer.file → mostOf b ≡ fileMost
 unfolding mostOf
 most-file b e = rw e
 
-most-text : (b : ℕ) → (b ≡ 0 → ⊥) → (b ≡ 1 → ⊥) → (b ≡ 2 → ⊥) → mostOf b ≡ 1200
+most-text : (b : ℕ) → (b ≡ buffer.table → ⊥) → (b ≡ buffer.work → ⊥) → (b ≡ buffer.file → ⊥) → mostOf b ≡ textMost
 unfolding mostOf
 most-text b p q r =
-    let h : 2 ≤ b = omega arith in
-    simp (le-ltb b 2 h, ne-eqb b 2 r)
+    let h : buffer.file ≤ b = omega arith in
+    simp (le-ltb b buffer.file h, ne-eqb b buffer.file r)
 
 -- THE FOUR
 
@@ -67,23 +68,23 @@ module _ (c : Command) (line : List ℕ) (b : Buffers) (w : Within (b .lengths) 
 
   buffers-fitted : Fitted (buffersAfter k vs line b .lengths)
   unfolding buffersAfter
-  buffers-fitted = step (eqb k kind.text) (eqb (vs .first) 0) (eqb (vs .first) 1) (eqb (vs .first) 2) refl refl refl refl
+  buffers-fitted = step (eqb k kind.text) (eqb (vs .first) buffer.table) (eqb (vs .first) buffer.work) (eqb (vs .first) buffer.file) refl refl refl refl
     where
-      step : (a t u v : Bool) → eqb k kind.text ≡ a → eqb (vs .first) 0 ≡ t → eqb (vs .first) 1 ≡ u → eqb (vs .first) 2 ≡ v → Fitted (buffersAfter k vs line b .lengths)
+      step : (a t u v : Bool) → eqb k kind.text ≡ a → eqb (vs .first) buffer.table ≡ t → eqb (vs .first) buffer.work ≡ u → eqb (vs .first) buffer.file ≡ v → Fitted (buffersAfter k vs line b .lengths)
       step true t u v p q r s = rw p (record { table = f .table; work = f .work; file = f .file; text = omega (arith, mod-le (b .lengths .text + vs .first) (2 ^ 32), w .added (eqb-true k kind.text p)) })
-      step false true u v p q r s = rw (p, q) (record { table = fits (b .lengths .table) 65536 (most-table _ (eqb-true _ 0 q)) (f .table); work = f .work; file = f .file; text = f .text })
-      step false false true v p q r s = rw (p, q, r) (record { table = f .table; work = fits (b .lengths .work) 65536 (most-work _ (eqb-true _ 1 r)) (f .work); file = f .file; text = f .text })
-      step false false false true p q r s = rw (p, q, r, s) (record { table = f .table; work = f .work; file = fits (b .lengths .file) 70000 (most-file _ (eqb-true _ 2 s)) (f .file); text = f .text })
+      step false true u v p q r s = rw (p, q) (record { table = fits (b .lengths .table) tableMost (most-table _ (eqb-true _ buffer.table q)) (f .table); work = f .work; file = f .file; text = f .text })
+      step false false true v p q r s = rw (p, q, r) (record { table = f .table; work = fits (b .lengths .work) tableMost (most-work _ (eqb-true _ buffer.work r)) (f .work); file = f .file; text = f .text })
+      step false false false true p q r s = rw (p, q, r, s) (record { table = f .table; work = f .work; file = fits (b .lengths .file) fileMost (most-file _ (eqb-true _ buffer.file s)) (f .file); text = f .text })
       step false false false false p q r s =
-          rw (p, q, r, s) (record { table = f .table; work = f .work; file = f .file; text = fits (b .lengths .text) 1200 (most-text _ (eqb-false _ 0 q) (eqb-false _ 1 r) (eqb-false _ 2 s)) (f .text) })
+          rw (p, q, r, s) (record { table = f .table; work = f .work; file = f .file; text = fits (b .lengths .text) textMost (most-text _ (eqb-false _ buffer.table q) (eqb-false _ buffer.work r) (eqb-false _ buffer.file s)) (f .text) })
 
 -- TABLE AND FILE
 
 -- what a file that opens hands back is a table of at most 60,000 bytes
-opened-fits : (s : Set) (file : List ℕ) (n : ℕ) → n ≤ 65536 → openedLength (openOf s file) (handed s file) n ≤ 65536
+opened-fits : (s : Set) (file : List ℕ) (n : ℕ) → n ≤ tableMost → openedLength (openOf s file) (handed s file) n ≤ tableMost
 opened-fits s file n h = step (openOf s file) refl
   where
-    step : (o : Opened) → openOf s file ≡ o → openedLength o (partOf s file o) n ≤ 65536
+    step : (o : Opened) → openOf s file ≡ o → openedLength o (partOf s file o) n ≤ tableMost
     step Opens e =
         let v = opening s file e in
         omega (arith, v .long, length-drop (headerLength s) file, passed-valid s (v .set) .states)
