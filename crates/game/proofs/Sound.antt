@@ -14,7 +14,8 @@ use Rattle.tasks.specs.declared.sets.Set.{Set}
 use Rattle.tasks.specs.Lists.{longestOf, lengthOf, listed}
 use Rattle.tasks.specs.Sets.{cmax, amax, taskAt, localsOf, statesTo, statesOf, Passed}
 use Rattle.tasks.proofs.ListLaws.{longest-listed, longest-pos}
-use Rattle.tasks.proofs.Valid.{ValidTask, Valid, passed-valid}
+use Rattle.tasks.specs.Valid.{ValidTask, Valid}
+use Rattle.tasks.proofs.Valid.{passed-valid}
 use Rattle.game.specs.declared.states.Job.{Job}
 use Rattle.game.specs.declared.states.Job.the-variants.{Empty, InHand}
 use Rattle.game.specs.declared.states.TaskState.{TaskState}

@@ -14,7 +14,8 @@ use Rattle.arena.proofs.Tests.{and-true, T-true, and-left, and-right, and-by, i
 use Rattle.tasks.specs.declared.sets.Task.{Task}
 use Rattle.tasks.specs.declared.sets.Set.{Set}
 use Rattle.tasks.specs.Sets.{taskAt, localsOf, statesTo, statesOf, Passed}
-use Rattle.tasks.proofs.Valid.{ValidTask, Valid, passed-valid}
+use Rattle.tasks.specs.Valid.{ValidTask, Valid}
+use Rattle.tasks.proofs.Valid.{passed-valid}
 use Rattle.game.specs.declared.states.TaskState.{TaskState}
 use Rattle.game.specs.declared.ticks.Moves.{Moves}
 use Rattle.game.specs.declared.ticks.Ticked.{Ticked}

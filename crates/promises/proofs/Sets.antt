@@ -8,7 +8,8 @@ use Rattle.tasks.specs.declared.sets.Set.{Set}
 use Rattle.tasks.specs.declared.sets.Tested.{Tested}
 use Rattle.tasks.specs.declared.sets.Tested.the-variants.{States, Refused}
 use Rattle.tasks.specs.Sets.{statesOf, testSet, saidTested}
-use Rattle.tasks.proofs.Valid.{Valid, valid, passes, refused-number}
+use Rattle.tasks.specs.Valid.{Valid}
+use Rattle.tasks.proofs.Valid.{valid, passes, refused-number}
 
 module _ (s : Set) where
   -- TAKEN: nothing is refused if and only if the set is valid

@@ -20,7 +20,8 @@ use Rattle.arena.proofs.Exact as Exact
 use Rattle.tasks.specs.declared.sets.Set.{Set}
 use Rattle.tasks.specs.Refusals.{noSafeSchedule}
 use Rattle.tasks.specs.Sets.{statesOf}
-use Rattle.tasks.proofs.Valid as Sets
+use Rattle.tasks.specs.Valid.{Valid}
+use Rattle.tasks.proofs.Valid.{passes as valid-passes}
 use Rattle.game.specs.Game.{Seen, outcomesTo, legalAt, arenaOf}
 use Rattle.game.proofs.Sound.{sound}
 use Rattle.shield.specs.declared.builder.Built.{Built}
@@ -117,17 +118,17 @@ module _ (s : Set) (t w t′ w′ : List ℕ) (r : Built) (B : Builds s t w r t�
       (tested-iff s (N .set) table bytes (passes-tried s table (said-passes s table e) .long) .1 e)
 
 -- A VALID SET, WITH ROOM ENOUGH IN BOTH BUFFERS
-module _ (s : Set) (v : Sets.Valid s) (t w t′ w′ : List ℕ) (ht : statesOf s ≤ length t) (hw : statesOf s ≤ length w) (r : Built) (B : Builds s t w r t′ w′) where
+module _ (s : Set) (v : Valid s) (t w t′ w′ : List ℕ) (ht : statesOf s ≤ length t) (hw : statesOf s ≤ length w) (r : Built) (B : Builds s t w r t′ w′) where
   judged : r ≡ buildIf s (safe (arenaOf s) 0)
-  judged = B .answer ∙ with-room s (Sets.passes s v) t w ht hw
+  judged = B .answer ∙ with-room s (valid-passes s v) t w ht hw
 
   -- REFUSED EXACTLY: it is refused with 8 if and only if every scheduler can be forced into a miss
   pub refused-exactly : NoSchedule r ↔ ((σ : Scheduler (arenaOf s)) → (play : List (Tick Seen)) × Misses σ [] 0 play)
   unfolding arenaOf
   refused-exactly =
-      let A = sound s (Sets.passes s v) in
+      let A = sound s (valid-passes s v) in
       let u = Exact.unsafe-iff (arenaOf s) A 0 (A .start) in (
-        λ n. u .0 (made-falls s r (record { set = Sets.passes s v; judged = judged }) (omega arith) .0),
+        λ n. u .0 (made-falls s r (record { set = valid-passes s v; judged = judged }) (omega arith) .0),
         λ f. ap (λ r. saidBuilt r .number) (judged ∙ ap (buildIf s) (T-false (safe (arenaOf s) 0) (u .1 f))),
       )
 

@@ -12,7 +12,8 @@ use Rattle.tasks.specs.declared.sets.Task.{Task}
 use Rattle.tasks.specs.declared.sets.Set.{Set}
 use Rattle.tasks.specs.Sets.{cmax, amax, taskAt, Passed}
 use Rattle.tasks.proofs.ListLaws.{longest-pos}
-use Rattle.tasks.proofs.Valid.{ValidTask, passed-valid}
+use Rattle.tasks.specs.Valid.{ValidTask}
+use Rattle.tasks.proofs.Valid.{passed-valid}
 use Rattle.game.specs.declared.states.TaskState.{TaskState}
 use Rattle.game.specs.States.{inRange, noState, stateAt}
 use Rattle.guard.specs.declared.runs.Counts.{Counts}

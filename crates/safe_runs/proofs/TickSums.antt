@@ -8,7 +8,7 @@ use lib.Dec.{T}
 use Rattle.arena.specs.Tests.{one}
 use Rattle.arena.proofs.Tests.{decide, T-true, T-false}
 use Rattle.tasks.specs.declared.sets.Task.{Task}
-use Rattle.tasks.proofs.Valid.{ValidTask}
+use Rattle.tasks.specs.Valid.{ValidTask}
 use Rattle.game.specs.declared.states.Job.{Job}
 use Rattle.game.specs.declared.states.Job.the-variants.{Empty, InHand}
 use Rattle.game.specs.declared.states.TaskState.{TaskState}

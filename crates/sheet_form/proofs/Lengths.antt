@@ -17,7 +17,7 @@ use Rattle.sheet_form.specs.Form.{Values, each, Each, space, lf, decimal
 use Rattle.sheet_form.specs.Sets.{lastApart, lineOf, textOf}
 use Rattle.arena.proofs.Tests.{by-cond}
 use Rattle.sheet_form.proofs.Bits.{apart-snoc}
-use Rattle.tasks.proofs.Valid.{ValidTask, Valid}
+use Rattle.tasks.specs.Valid.{ValidTask, Valid}
 use Rattle.sheet_form.proofs.Valid.{name-ok, task-count, tasks-ok}
 
 pub decimal-length : (v : ℕ) → length (decimal v) ≤ 2

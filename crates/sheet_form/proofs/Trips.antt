@@ -16,7 +16,7 @@ use Rattle.sheet_form.specs.Form.{Values, Line, Sheet, Each, Small, Line
 use Rattle.sheet_form.specs.Sets.{rising, listOf, kindOf, taskOf, padded, setOf, lineOf, sheetOf, textOf}
 use Rattle.arena.proofs.Tests.{decide, T-true, T-false}
 use Rattle.sheet_form.proofs.Bits.{kept-none, list-back, bits-said}
-use Rattle.tasks.proofs.Valid.{ValidTask, Valid}
+use Rattle.tasks.specs.Valid.{ValidTask, Valid}
 use Rattle.sheet_form.proofs.Valid.{name-ok, name-rest, task-count, tasks-each, tasks-ok, tasks-rest}
 
 pub record LineRises (l : Line) : Type 0 where

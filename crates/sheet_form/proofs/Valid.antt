@@ -14,7 +14,7 @@ use Rattle.tasks.specs.declared.sets.Set.{Set}
 use Rattle.tasks.specs.Sets.{nameByte, characters, zeros, goodName, noTask, blank, taskAt}
 use Rattle.arena.proofs.Tests.{and-left, and-right, lt-or-le}
 use Rattle.tasks.proofs.SetLaws.{characters-le}
-use Rattle.tasks.proofs.Valid.{ValidTask, Valid}
+use Rattle.tasks.specs.Valid.{ValidTask, Valid}
 use Rattle.sheet_form.specs.Form.{Each, NameOk}
 use Rattle.sheet_form.specs.Sets.{padded}
 

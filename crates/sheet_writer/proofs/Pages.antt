@@ -14,7 +14,7 @@ use Rattle.tasks.specs.declared.sets.Task.{Task}
 use Rattle.tasks.specs.declared.sets.Set.{Set}
 use Rattle.tasks.specs.Lists.{width, values, here, listed}
 use Rattle.tasks.specs.Sets.{noTask}
-use Rattle.tasks.proofs.Valid.{Valid}
+use Rattle.tasks.specs.Valid.{Valid}
 use Rattle.sheet_form.specs.Form.{each, withComma, lineText}
 use Rattle.sheet_form.specs.Sets.{lineOf}
 use Rattle.sheet_form.proofs.Tests.{each-append, each-snoc}

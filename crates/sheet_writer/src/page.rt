@@ -6,7 +6,7 @@ ghost use Prim.Native.Nat.{_<_};
 ghost use lib.Dec.{eqb};
 ghost use Rattle.tasks.specs.Lists.{valuesOf, lengthOf};
 ghost use Rattle.tasks.specs.Sets.{Passed};
-ghost use Rattle.tasks.proofs.Valid.{ValidTask};
+ghost use Rattle.tasks.specs.Valid.{ValidTask};
 ghost use Rattle.sheet_form.specs.Form.{decimal, valuesText, kindText, lineText};
 ghost use Rattle.sheet_form.specs.Sets.{lastApart, lineOf, textOf};
 ghost use Rattle.texts.specs.Puts.{Puts};

@@ -5,7 +5,8 @@ use Prim.Native.Nat.{_-_, _≤_, _<_}
 use native.Mathlib.Omega.{arith}
 use lib.ListN.{take}
 use borrow.Author.Needs.{needs}
-use Rattle.tasks.proofs.Valid.{Valid, passed-valid}
+use Rattle.tasks.specs.Valid.{Valid}
+use Rattle.tasks.proofs.Valid.{passed-valid}
 use Rattle.texts.specs.Puts.{Puts}
 use Rattle.texts.proofs.PutLaws.{puts-none, puts-length, puts-then, puts-as}
 use Rattle.sheet_form.specs.Form.{each, lineText}
