@@ -1,5 +1,5 @@
 -- A line is mangled exactly when one of the six holds.
-use mathlib.Core.Bool.{Bool, true, false, not, _&&_, _||_, cond}
+use mathlib.Core.Bool.{Bool, true, false, not, _&&_, _||_, cond, or-true}
 use mathlib.Core.List.{List, [], _∷_}
 use mathlib.Core.Path.{_≡_, refl, ap, ap₂, sym, _∙_}
 use Prim.Native.Nat.{ℕ, suc, _+_}
@@ -62,10 +62,6 @@ formed-counted (f ∷ fs) [] h n = clash (sym h)
 formed-counted (f ∷ fs) (w ∷ ws) h n = simp (and-left (hasForm f w) _ h, eq-eqb _ _ (formed-number (f ∷ fs) (w ∷ ws) h))
 
 -- THE ROWS
-
-or-true : (a : Bool) → (a || true) ≡ true
-or-true true = refl
-or-true false = refl
 
 module _ (f g : List ℕ → Bool) (h : (x : List ℕ) → f x ≡ true → g x ≡ true) where
   some-more : (l : List (List ℕ)) → some f l ≡ true → some g l ≡ true

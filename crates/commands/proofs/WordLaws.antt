@@ -1,5 +1,5 @@
 -- Laws of numbers and bytes.
-use mathlib.Core.Bool.{Bool, true, false, not, _&&_, cond}
+use mathlib.Core.Bool.{Bool, true, false, not, _&&_, cond, and-false}
 use mathlib.Core.List.{List, [], _∷_}
 use mathlib.Core.Path.{_≡_, refl}
 use Prim.Native.Nat.{ℕ, _+_, _-_, _*_, _/_, _%_, _<_, _≤_}
@@ -11,10 +11,6 @@ use lib.ListN.{length, drop, getD, drop-of-length-le, List·getD-eq-default}
 use lib.Seq.{drop-cons}
 use Rattle.commands.specs.declared.numbers.Found.the-variants.{Nothing, Value}
 use Rattle.commands.specs.Words.{each, digit, wellBegun, isNumber, decimalFrom, decimal, numberIn, hexDigit, isHex, isBytes, bytesIn, byteOf, byteAt}
-
-and-no : (a : Bool) → (a && false) ≡ false
-and-no true = refl
-and-no false = refl
 
 -- a test at each byte from a place on
 module _ (f : ℕ → Bool) (l : List ℕ) (i : ℕ) where
@@ -67,15 +63,15 @@ module _ (lo end : ℕ) (w : List ℕ) where
 
   pub number-digits : each digit w ≡ false → numberIn lo end w ≡ Nothing
   unfolding numberIn isNumber
-  number-digits h = simp (h, and-no)
+  number-digits h = simp (h, and-false)
 
   pub number-low : decimal w < lo → numberIn lo end w ≡ Nothing
   unfolding numberIn
-  number-low h = simp (lt-leb _ _ h, and-no)
+  number-low h = simp (lt-leb _ _ h, and-false)
 
   pub number-high : end ≤ decimal w → numberIn lo end w ≡ Nothing
   unfolding numberIn
-  number-high h = simp (le-ltb _ _ h, and-no)
+  number-high h = simp (le-ltb _ _ h, and-false)
 
   pub number-taken : (v : ℕ) → wellBegun w ≡ true → each digit w ≡ true → decimal w ≡ v → lo ≤ v → v < end → numberIn lo end w ≡ Value v
   unfolding numberIn isNumber
@@ -90,15 +86,15 @@ module _ (lo end : ℕ) (w : List ℕ) where
 
   pub bytes-odd : length w % 2 ≡ 1 → bytesIn lo end w ≡ Nothing
   unfolding bytesIn isBytes
-  bytes-odd h = simp (h, and-no)
+  bytes-odd h = simp (h, and-false)
 
   pub bytes-low : length w / 2 < lo → bytesIn lo end w ≡ Nothing
   unfolding bytesIn
-  bytes-low h = simp (lt-leb _ _ h, and-no)
+  bytes-low h = simp (lt-leb _ _ h, and-false)
 
   pub bytes-high : end ≤ length w / 2 → bytesIn lo end w ≡ Nothing
   unfolding bytesIn
-  bytes-high h = simp (le-ltb _ _ h, and-no)
+  bytes-high h = simp (le-ltb _ _ h, and-false)
 
   pub bytes-taken : each isHex w ≡ true → (length w % 2 ≡ 1 → ⊥) → lo ≤ length w / 2 → length w / 2 < end → bytesIn lo end w ≡ Value (length w / 2)
   unfolding bytesIn isBytes

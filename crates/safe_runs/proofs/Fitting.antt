@@ -4,10 +4,10 @@ use mathlib.Core.Bool.{Bool, true, false, not, cond}
 use mathlib.Core.List.{List, [], _∷_}
 use Prim.Native.Nat.{ℕ, suc, _+_, _≤_, _<_}
 use native.Mathlib.Omega.{arith}
-use lib.Dec.{T, eqb, leb, ltb, leb→le, lt→ltb, T-not}
+use lib.Dec.{T, eqb, leb, ltb, leb→le, lt→ltb}
 use lib.ListN.{getD}
-use borrow.Author.Tests.{lt-ltb, le-ltb, le-leb, eq-eqb}
-use Rattle.arena.proofs.Tests.{and-by}
+use borrow.Author.Tests.{lt-ltb, le-ltb, le-leb, eqb-false}
+use Rattle.arena.proofs.Tests.{T-false, and-by}
 use Rattle.tasks.specs.declared.sets.Task.{Task}
 use Rattle.tasks.specs.declared.sets.Set.{Set}
 use Rattle.tasks.specs.Sets.{cmax, amax, taskAt, Passed}
@@ -96,16 +96,13 @@ module _ (s : Set) (q : Passed s) (r : Run) (w : Fits s r) where
   given-fits p c f m l = record {
     ticks = w .ticks;
     awaited =
-        let n : r .ticks < tickLimit = omega (arith, w .ticks, not-equal (r .ticks) tickLimit m) in
+        let n : r .ticks < tickLimit = omega (arith, w .ticks, eqb-false (r .ticks) tickLimit (T-false _ m)) in
         and-by (ltb (r .ticks) tickLimit) _ (subst T (sym (lt-ltb (r .ticks) tickLimit n)) tt)
         (and-by (leb (cond (eqb c p) (r .substitutions) (r .substitutions + 1)) (r .ticks + 1)) _ (subst T (sym (le-leb _ (r .ticks + 1) (few (eqb c p)))) tt) l);
     tasks = w .tasks;
     rest = w .rest;
   }
     where
-      not-equal : (m n : ℕ) → T (not (eqb m n)) → m ≡ n → ⊥
-      not-equal m n t e = T-not (eqb m n) t (subst T (sym (eq-eqb m n e)) tt)
-
       few : (b : Bool) → cond b (r .substitutions) (r .substitutions + 1) ≤ r .ticks + 1
       few true = omega (arith, free-awaited s r (r .awaited) f (w .awaited))
       few false = omega (arith, free-awaited s r (r .awaited) f (w .awaited))

@@ -2,11 +2,11 @@
 use mathlib.Core.Path.{_≡_, refl, sym, ap, subst, _∙_}
 use mathlib.Core.Logic.{⊎-elim}
 use mathlib.Core.Bool.{Bool, true, false, not, _&&_, cond}
-use Prim.Native.Nat.{ℕ, _+_, _≤_}
+use Prim.Native.Nat.{ℕ, _+_}
 use native.Mathlib.Omega.{arith}
 use lib.Dec.{T}
 use Rattle.arena.specs.Tests.{one}
-use Rattle.arena.proofs.Tests.{decide, T-true, T-false}
+use Rattle.arena.proofs.Tests.{decide, T-true, T-false, one-le}
 use Rattle.tasks.specs.declared.sets.Task.{Task}
 use Rattle.tasks.specs.Valid.{ValidTask}
 use Rattle.game.specs.declared.states.Job.{Job}
@@ -62,10 +62,6 @@ sum-kept τ true true true age (InHand g) a p r t e = omega arith
 sum-kept τ true true false age (InHand g) a p r t e = omega arith
 sum-kept τ true false true age (InHand g) a p r t e = omega arith
 sum-kept τ true false false age (InHand g) a p r t e = omega arith
-
-one-le : (b : Bool) → one b ≤ 1
-one-le true = omega arith
-one-le false = omega arith
 
 -- a place that fits, a tick later
 pub fit-tick : (τ : Task) → ValidTask τ → (run : Bool) (x : TaskState) (f : Flags) (ticks : ℕ) (n : Counts) → Fit τ ticks x n

@@ -1,7 +1,7 @@
 -- What an outcome of the game tells of each task, and the report that says so. Assumes nothing.
 use mathlib.Core.Path.{_≡_, refl, sym, ap, ap₂, subst, _∙_}
 use mathlib.Core.Logic.{⊎-elim}
-use mathlib.Core.Bool.{Bool, true, false, not, _&&_, _||_}
+use mathlib.Core.Bool.{Bool, true, false, not, _&&_, _||_, and-false}
 use mathlib.Core.List.{List, [], _∷_, _++_, List·Memᴰ·eq-of-singleton}
 use Prim.Native.Nat.{ℕ, zero, suc, _+_, _*_, _/_, _%_, _^_, _<_}
 use native.Mathlib.Nat.{eq-or-lt-of-le, le-of-suc-le-suc, div-add-mod', div-eq-of-lt}
@@ -133,11 +133,7 @@ module _ (s : Set) (xs : List TaskState) (i : ℕ) (same : (j : ℕ) → j < s .
 
 none-idle : (v : Seen) (c : ℕ) → (finishedIn v c && eqb c 0) ≡ false
 none-idle v zero = refl
-none-idle v (suc k) = ap (λ b. finishedIn v (suc k) && b) (ne-eqb (suc k) 0 (λ e. omega arith)) ∙ last (finishedIn v (suc k))
-  where
-    last : (b : Bool) → (b && false) ≡ false
-    last true = refl
-    last false = refl
+none-idle v (suc k) = ap (λ b. finishedIn v (suc k) && b) (ne-eqb (suc k) 0 (λ e. omega arith)) ∙ and-false (finishedIn v (suc k))
 
 -- THE REPORT BY WHAT IS SEEN is not stray
 pub told-straight : (s : Set) (v : Seen) (c : ℕ) → T (not (strays s (said c (finishedIn v c) (arrivalsIn v (s .count)))))

@@ -9,6 +9,7 @@ use native.Mathlib.Omega.{arith}
 use lib.Dec.{T, ltb, ltb→lt, lt→ltb}
 use lib.ListN.{length}
 use Rattle.tasks.specs.Lists.{values, valuesOf, here, lengthOf}
+use Rattle.tasks.proofs.ListLaws.{no-values}
 use Rattle.sheet_form.specs.Form.{Values, Each, Small, ValuesOk}
 use Rattle.sheet_form.specs.Sets.{numbers, risingFrom, rising, bits, listOf, lastApart}
 use Rattle.arena.proofs.Tests.{T-true, and-left, and-right, lt-or-le}
@@ -39,15 +40,10 @@ double l (x ∷ xs) t =
     let i = double l xs (rising-less (suc l) x xs (omega arith) (and-right (ltb (suc l) x) (risingFrom x xs) t)) in
     omega arith
 
-none : (d k : ℕ) → values d k 0 ≡ []
-unfolding values
-none zero k = refl
-none (suc d) k = none d (suc k)
-
 -- the values of a rising list's bits are the list
 values-bits : (d l : ℕ) (xs : List ℕ) → T (risingFrom l xs) → Each (λ x. x ≤ l + d) xs → values d (suc l) (bitsFrom l xs) ≡ xs
 unfolding values
-values-bits d l [] t h = none d (suc l)
+values-bits d l [] t h = no-values d (suc l)
 values-bits zero l (x ∷ xs) t h = let z : ⊥ = omega (arith, ltb→lt l x (and-left (ltb l x) (risingFrom x xs) t), h .0) in absurd z
 values-bits (suc d) l (x ∷ xs) t h =
     ⊎-elim (λ g. above g (values-bits d (suc l) (x ∷ xs) (from g) (up (x ∷ xs) h))) (λ g. lowest (same g) (values-bits d (suc l) xs (subst (λ n. T (risingFrom n xs)) (same g) rest) (up xs (h .1)))) (lt-or-le (suc l) x)

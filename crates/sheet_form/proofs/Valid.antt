@@ -11,26 +11,14 @@ use lib.ListN.{length, getD, take, drop, replicate, length-drop, length-replicat
 use lib.Seq.{length-take-le, getD-take, getD-drop, ext-getD}
 use Rattle.tasks.specs.declared.sets.Task.{Task}
 use Rattle.tasks.specs.declared.sets.Set.{Set}
-use Rattle.tasks.specs.Sets.{nameByte, characters, zeros, goodName, noTask, blank, taskAt}
+use Rattle.tasks.specs.Sets.{nameByte, characters, zeros, goodName, noTask, taskAt}
 use Rattle.arena.proofs.Tests.{and-left, and-right, lt-or-le}
-use Rattle.tasks.proofs.SetLaws.{characters-le}
+use Rattle.tasks.proofs.SetLaws.{blank-is, characters-le}
 use Rattle.tasks.specs.Valid.{ValidTask, Valid}
 use Rattle.sheet_form.specs.Form.{Each, NameOk}
 use Rattle.sheet_form.specs.Sets.{padded}
 
 -- RECORDS
-
-blank-is : (τ : Task) → T (blank τ) → τ ≡ noTask
-unfolding blank
-blank-is τ t =
-    let a = and-right (eqb (τ .kind) 0) _ t in
-    let b = and-right (eqb (τ .deadline) 0) _ a in
-    λ i. record {
-      kind = eqb→eq (τ .kind) 0 (and-left (eqb (τ .kind) 0) _ t) i;
-      deadline = eqb→eq (τ .deadline) 0 (and-left (eqb (τ .deadline) 0) _ a) i;
-      runs = eqb→eq (τ .runs) 0 (and-left (eqb (τ .runs) 0) _ b) i;
-      gaps = eqb→eq (τ .gaps) 0 (and-right (eqb (τ .runs) 0) _ b) i;
-    }
 
 Each-from : {A : Type 0} (P : A → Type 0) (d : A) (xs : List A) → ((i : ℕ) → i < length xs → P (getD xs i d)) → Each P xs
 Each-from P d [] f = tt

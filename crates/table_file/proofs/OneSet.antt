@@ -4,14 +4,14 @@ use mathlib.Core.Logic.{⊎-elim}
 use mathlib.Core.List.{List, []}
 use Prim.Native.Nat.{ℕ, _+_, _-_, _*_, _/_, _%_, _≤_, _<_}
 use native.Mathlib.Omega.{arith}
-use lib.Dec.{T, eqb, eqb→eq}
 use lib.ListN.{length, getD}
 use lib.Seq.{ext-getD}
-use Rattle.arena.proofs.Tests.{and-left, and-right, lt-or-le}
+use Rattle.arena.proofs.Tests.{lt-or-le}
 use Rattle.tasks.specs.declared.sets.Task.{Task}
 use Rattle.tasks.specs.declared.sets.Set.{Set}
 use Rattle.tasks.specs.Refusals.{headerDiffers}
-use Rattle.tasks.specs.Sets.{noTask, taskAt, Sized, blank, statesOf, Passed}
+use Rattle.tasks.specs.Sets.{noTask, taskAt, Sized, statesOf, Passed}
+use Rattle.tasks.proofs.SetLaws.{blank-is}
 use Rattle.tasks.proofs.Valid.{passed-valid}
 use Rattle.table_file.specs.Files.{taskBytes, header, headerLength, fileOf}
 use Rattle.table_file.specs.Open.{present, openTested, openOf, saidOpened}
@@ -26,15 +26,6 @@ task-eq a b k d r g = λ i. record { kind = k i; deadline = d i; runs = r i; gap
 
 set-eq : (a b : Set) → a .name ≡ b .name → a .count ≡ b .count → a .tasks ≡ b .tasks → a ≡ b
 set-eq a b n c t = λ i. record { name = n i; count = c i; tasks = t i }
-
--- a record of zeros
-blank-eq : (τ : Task) → T (blank τ) → τ ≡ noTask
-unfolding blank
-blank-eq τ t =
-    let a = and-right (eqb (τ .kind) 0) _ t in
-    let b = and-right (eqb (τ .deadline) 0) _ a in
-    task-eq τ noTask (eqb→eq (τ .kind) 0 (and-left (eqb (τ .kind) 0) _ t)) (eqb→eq (τ .deadline) 0 (and-left (eqb (τ .deadline) 0) _ a))
-    (eqb→eq (τ .runs) 0 (and-left (eqb (τ .runs) 0) _ b)) (eqb→eq (τ .gaps) 0 (and-right (eqb (τ .runs) 0) _ b))
 
 -- a task by its six bytes
 bytes-eq : (a b : Task) → (a .runs < 65536) × (a .gaps < 65536) → (b .runs < 65536) × (b .gaps < 65536)
@@ -68,7 +59,7 @@ module _ (file : List ℕ) (s u : Set) (m : Sized s) (n : Sized u) (o : Opening 
           sym (task-at s (m .name) j k l b) ∙ at (22 + (6 * j + k)) (omega arith) ∙ task-at u (n .name) j k (omega (arith, count-eq)) b)
 
       beyond : s .count ≤ j → taskAt s j ≡ taskAt u j
-      beyond l = blank-eq (taskAt s j) (passed-valid s (o .set) .blanks j l h) ∙ sym (blank-eq (taskAt u j) (passed-valid u (q .set) .blanks j (omega (arith, count-eq)) h))
+      beyond l = blank-is (taskAt s j) (passed-valid s (o .set) .blanks j l h) ∙ sym (blank-is (taskAt u j) (passed-valid u (q .set) .blanks j (omega (arith, count-eq)) h))
 
   sets-eq : s ≡ u
   sets-eq = set-eq s u name-eq count-eq (ext-getD noTask (s .tasks) (u .tasks) (m .tasks ∙ sym (n .tasks)) (λ i h. record-eq i (omega (arith, m .tasks))))
