@@ -1,4 +1,4 @@
--- What calls on a run keep: it fits and its sums hold; an ask is answered by the guard; a refused call changes nothing. Assumes nothing.
+-- What calls on a run keep: it fits and its sums hold; an ask is answered by the guard; a refused call changes nothing, and a refused start is a run of zeros. Assumes nothing.
 use mathlib.Core.Path.{_≡_, refl, sym, ap, subst, _∙_}
 use mathlib.Core.Bool.{not}
 use mathlib.Core.List.{List, [], _∷_}
@@ -8,16 +8,19 @@ use lib.Dec.{T, T-not}
 use lib.ListN.{getD}
 use Rattle.arena.specs.Tests.{one}
 use Rattle.tasks.specs.declared.sets.Set.{Set}
+use Rattle.tasks.specs.declared.sets.Tested.{Tested}
+use Rattle.tasks.specs.declared.sets.Tested.the-variants as Tested
 use Rattle.tasks.specs.Refusals.{answered, refusing, stateDoesNotFit}
-use Rattle.tasks.specs.Sets.{Passed}
+use Rattle.tasks.specs.Sets.{testSet, Passed}
 use Rattle.tasks.proofs.Valid.{refused-number}
-use Rattle.game.specs.States.{stateAt}
+use Rattle.game.specs.States.{noState, stateAt}
 use Rattle.game.specs.Ticks.{inHand}
 use Rattle.shield.specs.Entries.{names}
+use Rattle.guard.specs.declared.runs.Awaited.the-variants as Awaited
 use Rattle.guard.specs.declared.runs.Run.{Run}
 use Rattle.guard.specs.declared.asks.Asked.{Asked}
 use Rattle.guard.specs.declared.reports.Reported.{Reported}
-use Rattle.guard.specs.Runs.{countsAt, fits, saidTaken}
+use Rattle.guard.specs.Runs.{seven, noCounts, countsAt, startRun, startTested, startOf, fits, saidTaken}
 use Rattle.guard.specs.Ask.{choiceFor, askGiven, askOf, saidChosen}
 use Rattle.guard.specs.Calls.{Call, ask, report, saidBy, runBy, reached}
 use Rattle.guard.proofs.RunLaws.{Fits, fits-by}
@@ -85,3 +88,22 @@ module _ (s : Set) (table : List ℕ) (r : Run) where
       report-case s r reading finished arrivals (λ (a : Reported). (saidTaken (a .answer) .number ≡ 0 → ⊥) → a .run ≡ r)
       (λ _ _ _. refl) (λ _ _. refl) (λ _. refl) (λ _. refl)
       (λ c e _. named-case s r _ (λ (a : Reported). (saidTaken (a .answer) .number ≡ 0 → ⊥) → a .run ≡ r) (λ _ _. refl) (λ _ _ _. refl) (λ _ _ z. absurd (z refl)))
+
+-- A REFUSED START RETURNS A RUN OF ZEROS with no job, and nothing is awaited
+abbrev pub noRun : Run
+noRun = record {
+  states = seven (λ _. noState);
+  counts = seven (λ _. noCounts);
+  ticks = 0;
+  substitutions = 0;
+  reading = 0;
+  awaited = Awaited.Nothing;
+}
+
+pub refused-zeros : (s : Set) (reading : ℕ) → (saidTaken (startOf s reading .answer) .number ≡ 0 → ⊥) → startOf s reading .run ≡ noRun
+unfolding startRun
+refused-zeros s reading = by (testSet s)
+  where
+    by : (t : Tested) → (saidTaken (startTested s reading t .answer) .number ≡ 0 → ⊥) → startTested s reading t .run ≡ noRun
+    by (Tested.Refused f) z = refl
+    by (Tested.States n) z = absurd (z refl)

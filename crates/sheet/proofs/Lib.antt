@@ -3,3 +3,4 @@ pub mod OnText
 pub mod Begun
 pub mod RoundTrips
 pub mod Numbers
+pub mod Keeps
