@@ -1,12 +1,12 @@
 -- What the report on a sheet leaves of everything that it was lent, by its answer in the paper's terms. Assumes nothing.
 use mathlib.Core.Path.{_≡_, refl, sym, ap, _∙_}
 use mathlib.Core.List.{List, [], _∷_}
-use Prim.Native.Nat.{ℕ, _≤_}
-use lib.Dec.{ltb}
+use Prim.Native.Nat.{ℕ, _≤_, _<_}
+use lib.Dec.{ltb, ltb→lt}
 use lib.ListN.{length, drop, getD}
 use lib.Seq.{drop-at}
 use Rattle.arena.proofs.Tests.{by-cond}
-use Rattle.tasks.specs.Refusals.{answered}
+use Rattle.tasks.specs.Refusals.{answered, refusing, short}
 use Rattle.shield.specs.declared.builder.Built.{Built}
 use Rattle.shield.specs.Build.{buildOf, Builds}
 use Rattle.sheet_reader.specs.declared.ReadAnswer.{ReadAnswer}
@@ -57,3 +57,10 @@ module _ (sheet t w o : List ℕ) where
           work = ap (λ (x : Left). x .work) l ∙ ap (λ (x : Told). x .work) (sym e);
         },
       )
+
+  -- the one refusal is 7, of an output without room for every report, with the bytes needed
+  pub refused-short : let x = reportOf sheet t w o in (saidReported (x .answer) .number ≡ 0 → ⊥) → (saidReported (x .answer) ≡ refusing 1 (short room)) × (length o < room)
+  unfolding reportOf
+  refused-short =
+      by-cond (λ (x : Left). (saidReported (x .answer) .number ≡ 0 → ⊥) → (saidReported (x .answer) ≡ refusing 1 (short room)) × (length o < room)) (ltb (length o) room) _ _
+      (λ l z. (refl, ltb→lt (length o) room l)) (λ _ z. absurd (z refl))
