@@ -67,7 +67,7 @@ clean {a} e m f = record { entry = other badEntry e; miss = other hardMiss m; fi
     other n t e = T-not (eqb (a .number) n) t (subst T (sym (eq-eqb (a .number) n e)) tt)
 
 -- nothing is awaited after a report
-after-free : (s : Set) (r : Run) (o : Outcome) (c : ℕ) → runAfter s r o .awaited ≡ Awaited.Choice c → ⊥
+pub after-free : (s : Set) (r : Run) (o : Outcome) (c : ℕ) → runAfter s r o .awaited ≡ Awaited.Choice c → ⊥
 unfolding runAfter
 after-free s r o c z = let y : _≡_ {A = ℕ} 0 1 = cc in omega arith
 
