@@ -1,11 +1,14 @@
--- Removal while a round is going on leaves the right states, and gives r 2 and R 2 for the two sets below. The builder's contract says 3
--- and 3: an answer with 2 does not meet it. Assumes nothing.
-use mathlib.Core.Path.{_≡_, refl, sym, ap, ap₂, _∙_}
+-- Removal while a round is going on leaves the right states, and other numbers: for `thirds` r is 2 if states are looked at from the lowest
+-- index on, and 1 from the highest; for `quarters` R is 2 either way. The builder's contract says 3 and 3. Assumes nothing.
+use mathlib.Core.Path.{_≡_, ap, ap₂, _∙_}
+use mathlib.Core.Bool.{cond}
 use mathlib.Core.List.{List, [], _∷_}
-use Prim.Native.Nat.{ℕ}
-use native.Mathlib.Omega.{arith}
-use lib.ListN.{length, getD}
+use Prim.Native.Nat.{ℕ, _≤_}
+use lib.ListN.{length}
+use borrow.Author.Tests.{le-ltb}
+use Rattle.tasks.specs.declared.refusals.Refusal.{Refusal}
 use Rattle.tasks.specs.declared.sets.Set.{Set}
+use Rattle.tasks.specs.Refusals.{answered, noSafeSchedule}
 use Rattle.tasks.specs.Lists.{values, shortestOf, longestOf, lengthOf, listed}
 use Rattle.tasks.specs.Examples.{hard, setOf}
 use Rattle.tasks.specs.Sets.{nameByte, characters, zeros, goodName, blank, unfit, faultOf, faultAt, localsOf, statesTo, lowestFault, testStates, testSet}
@@ -13,8 +16,9 @@ use Rattle.game.specs.States.{localOf, stateOf, inRange, localAt}
 use Rattle.game.specs.Ticks.{runnable, can, tickOf}
 use Rattle.game.specs.Game.{outcomesTo, arenaOf}
 use Rattle.shield.specs.declared.builder.Built.{Built}
+use Rattle.shield.specs.declared.builder.Built.the-variants.{Done, Refused}
 use Rattle.shield.specs.Entries.{names, marks}
-use Rattle.shield.specs.Build.{buildOf, Builds, saidBuilt}
+use Rattle.shield.specs.Build.{tooShort, buildOf, Builds, saidBuilt}
 
 -- hard 3 1,2 3 and hard 1 1 1,2
 abbrev pub thirds : Set
@@ -24,21 +28,24 @@ thirds = setOf (65 ∷ []) (hard 3 3 4 ∷ hard 1 1 3 ∷ [])
 abbrev pub quarters : Set
 quarters = setOf (65 ∷ []) (hard 4 2 8 ∷ hard 2 1 2 ∷ [])
 
-falls-in-3 : saidBuilt (buildOf thirds 36 36) .place ≡ 3
-unfolding values shortestOf longestOf lengthOf listed nameByte characters zeros goodName blank unfit faultOf faultAt localsOf statesTo lowestFault testStates testSet localOf stateOf inRange localAt runnable can tickOf outcomesTo arenaOf names marks
-falls-in-3 = refl
+-- no safe schedule, and the start falls in round 3
+abbrev in3 : Refusal
+in3 = record { number = noSafeSchedule; place = 3 }
 
-rounds-3 : saidBuilt (buildOf quarters 48 48) .values ≡ 40 ∷ 3 ∷ 6 ∷ []
-unfolding values shortestOf longestOf lengthOf listed nameByte characters zeros goodName blank unfit faultOf faultAt localsOf statesTo lowestFault testStates testSet localOf stateOf inRange localAt runnable can tickOf outcomesTo arenaOf names marks
-rounds-3 = refl
+module _ (n m : ℕ) where
+  thirds-built : 36 ≤ n → 36 ≤ m → buildOf thirds n m ≡ Refused in3
+  unfolding values shortestOf longestOf lengthOf listed nameByte characters zeros goodName blank unfit faultOf faultAt localsOf statesTo lowestFault testStates testSet localOf stateOf inRange localAt runnable can tickOf outcomesTo arenaOf names marks
+  thirds-built h k = ap₂ (λ a b. cond a (tooShort 36) (cond b (tooShort 36) (Refused in3))) (le-ltb n 36 h) (le-ltb m 36 k)
+
+  quarters-built : 48 ≤ n → 48 ≤ m → buildOf quarters n m ≡ Done 40 3 6
+  unfolding values shortestOf longestOf lengthOf listed nameByte characters zeros goodName blank unfit faultOf faultAt localsOf statesTo lowestFault testStates testSet localOf stateOf inRange localAt runnable can tickOf outcomesTo arenaOf names marks
+  quarters-built h k = ap₂ (λ a b. cond a (tooShort 48) (cond b (tooShort 48) (Done 40 3 6))) (le-ltb n 48 h) (le-ltb m 48 k)
 
 module _ (r : Built) (t w t′ w′ : List ℕ) where
-  -- a builder that removes in place says r 2
-  pub not-r-in-place : length t ≡ 36 → length w ≡ 36 → Builds thirds t w r t′ w′ → saidBuilt r .place ≡ 2 → ⊥
-  not-r-in-place p q B e = omega (arith, ap (λ r. saidBuilt r .place) (B .answer), ap₂ (λ n m. saidBuilt (buildOf thirds n m) .place) p q, falls-in-3)
+  -- removed at once, the start of `thirds` falls in round 3: refusal 8 with r 3
+  pub r-at-once : 36 ≤ length t → 36 ≤ length w → Builds thirds t w r t′ w′ → saidBuilt r ≡ record { number = noSafeSchedule; place = 3; values = 0 ∷ 0 ∷ 0 ∷ [] }
+  r-at-once h k B = ap saidBuilt (B .answer ∙ thirds-built (length t) (length w) h k)
 
-  -- and R 2
-  pub not-R-in-place : length t ≡ 48 → length w ≡ 48 → Builds quarters t w r t′ w′ → saidBuilt r .values ≡ 40 ∷ 2 ∷ 6 ∷ [] → ⊥
-  not-R-in-place p q B e =
-      let z : _≡_ {A = List ℕ} (40 ∷ 2 ∷ 6 ∷ []) (40 ∷ 3 ∷ 6 ∷ []) = sym e ∙ ap (λ r. saidBuilt r .values) (B .answer) ∙ ap₂ (λ n m. saidBuilt (buildOf quarters n m) .values) p q ∙ rounds-3 in
-      omega (arith, ap (λ l. getD l 1 0) z)
+  -- and `quarters` has 40 safe states, R 3 and the start's entry 6
+  pub R-at-once : 48 ≤ length t → 48 ≤ length w → Builds quarters t w r t′ w′ → saidBuilt r ≡ answered (40 ∷ 3 ∷ 6 ∷ [])
+  R-at-once h k B = ap saidBuilt (B .answer ∙ quarters-built (length t) (length w) h k)

@@ -6,13 +6,14 @@ use Prim.Native.Nat.{ℕ, suc, _≤_, _<_}
 use native.Mathlib.Omega.{arith}
 use lib.Dec.{T, eqb, ltb, eqb→eq, ltb→lt, nltb→le}
 use lib.ListN.{length}
-use Rattle.arena.proofs.Tests.{by-cond, nor, T-false, first-least}
+use Rattle.arena.proofs.Tests.{by-cond, nor, not-not, T-false, first-least}
 use Rattle.tasks.specs.declared.refusals.Refusal.{Refusal}
 use Rattle.tasks.specs.declared.sets.Set.{Set}
 use Rattle.tasks.specs.declared.sets.Tested.{Tested}
 use Rattle.tasks.specs.declared.sets.Tested.the-variants as Tested
 use Rattle.tasks.specs.Refusals.{bufferTooShort, stateDoesNotFit, outOfTurn, ticksUsedUp, proposalAboveCount, badEntry, wrongReading, impossibleOutcome, hardMiss}
 use Rattle.tasks.specs.Sets.{testSet, Passed}
+use Rattle.tasks.proofs.Valid.{passed}
 use Rattle.game.specs.declared.states.TaskState.{TaskState}
 use Rattle.game.specs.States.{indexOf}
 use Rattle.shield.specs.Entries.{entryAt}
@@ -38,6 +39,8 @@ not-refused s q f e = let z : _≡_ {A = ℕ} 0 1 = cc in omega arith
 
 -- what an ask that is answered has found
 pub record Ready (s : Set) (table : List ℕ) (r : Run) (p : ℕ) : Type 0 where
+  pub set : Passed s
+  pub fits : T (fits s r)
   pub free : T (not (awaits (r .awaited)))
   pub more : T (not (eqb (r .ticks) tickLimit))
   pub within : p ≤ s .count
@@ -62,11 +65,11 @@ module _ (s : Set) (table : List ℕ) (r : Run) (p : ℕ) (P : Asked → Type 0)
       by (Tested.States n) e =
           by-cond P (ltb (length table) n) _ _ (λ h. short n e (ltb→lt (length table) n h))
           (λ _. by-cond P (not (fits s r)) _ _ unfit
-          (λ _. by-cond P (awaits (r .awaited)) _ _ turn
+          (λ f. by-cond P (awaits (r .awaited)) _ _ turn
           (λ a. by-cond P (eqb (r .ticks) tickLimit) _ _ used
           (λ b. by-cond P (ltb (s .count) p) _ _ (λ c. above (ltb→lt (s .count) p c))
           (λ c. by-cond P (serves s (r .states) (own s table r)) _ _
-          (λ d. given (record { free = a; more = b; within = nltb→le (s .count) p c; serves = d }))
+          (λ d. given (record { set = passed s n e; fits = not-not (fits s r) f; free = a; more = b; within = nltb→le (s .count) p c; serves = d }))
           bad)))))
 
 -- A REPORT WITH THE NEXT READING: 18, 19, or the run after it

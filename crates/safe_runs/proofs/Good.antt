@@ -6,8 +6,9 @@ use Prim.Native.Nat.{ℕ, zero, suc, _+_, _*_, _≤_, _<_}
 use native.Mathlib.Omega.{arith}
 use lib.Dec.{T, eqb, ltb, ltb→lt, T-not}
 use borrow.Author.Tests.{eq-eqb}
-use Rattle.arena.specs.Tests.{all, allBelow, imp}
+use Rattle.arena.specs.Tests.{_∈_, all, allBelow, imp}
 use Rattle.arena.specs.Arena.{Next, miss, lands, fine}
+use Rattle.arena.specs.Arena as arena
 use Rattle.arena.proofs.Tests.{nor, and-left, and-right, and-by, not-not, imp-at, allBelow-at, all-at, first-hit, T-true}
 use Rattle.tasks.specs.declared.sets.Set.{Set}
 use Rattle.tasks.specs.Refusals.{Said, badEntry, hardMiss, stateDoesNotFit}
@@ -16,7 +17,7 @@ use Rattle.tasks.proofs.Valid.{passed-valid}
 use Rattle.game.specs.declared.states.TaskState.{TaskState}
 use Rattle.game.specs.States.{localOf, noState, indexTo, indexOf}
 use Rattle.game.specs.Ticks.{runnable}
-use Rattle.game.specs.Game.{outcomesTo, legalAt, arenaOf}
+use Rattle.game.specs.Game.{Seen, outcomesTo, legalAt, arenaOf}
 use Rattle.game.proofs.StateLaws.{states-pos, state-index}
 use Rattle.shield.specs.Entries.{names, entryAt, Bytes, live}
 use Rattle.shield.specs.Test.{faulty}
@@ -66,12 +67,12 @@ clean {a} e m f = record { entry = other badEntry e; miss = other hardMiss m; fi
     other n t e = T-not (eqb (a .number) n) t (subst T (sym (eq-eqb (a .number) n e)) tt)
 
 -- nothing is awaited after a report
-after-free : (s : Set) (r : Run) (o : Outcome) (c : ℕ) → runAfter s r o .awaited ≡ Awaited.Choice c → ⊥
+pub after-free : (s : Set) (r : Run) (o : Outcome) (c : ℕ) → runAfter s r o .awaited ≡ Awaited.Choice c → ⊥
 unfolding runAfter
 after-free s r o c z = let y : _≡_ {A = ℕ} 0 1 = cc in omega arith
 
 -- the start is index 0
-fresh-index : (s : Set) → s .count ≤ 7 → (k : ℕ) → k ≤ s .count → indexTo s (seven (startState (s .count))) k ≡ 0
+pub fresh-index : (s : Set) → s .count ≤ 7 → (k : ℕ) → k ≤ s .count → indexTo s (seven (startState (s .count))) k ≡ 0
 unfolding indexTo localOf
 fresh-index s v zero h = refl
 fresh-index s v (suc k) h =
@@ -130,6 +131,14 @@ module _ (s : Set) (table : List ℕ) (w : Tried s table) (bytes : Bytes (states
   outcomes-land r g c e =
       let n = g .named c e in
       and-right (legalAt s (indexOf s (r .states)) c) _ (named-fine s table w (indexOf s (r .states)) c (index-fits s r (g .fits)) (n .1) (n .0))
+
+  -- so none of them is a miss
+  pub good-outcomes : (r : Run) → Good s table r → (c : ℕ) → r .awaited ≡ Awaited.Choice c
+      → (o : arena.Outcome Seen) → o ∈ arenaOf s .outs (indexOf s (r .states)) c → o .next ≡ miss → ⊥
+  unfolding arenaOf
+  good-outcomes r g c e o m z =
+      subst (λ (n : Next). T (lands (live table) n)) z
+      (all-at (λ o. lands (live table) (o .next)) (outcomesTo s (indexOf s (r .states)) c (s .count)) (outcomes-land r g c e) m)
 
   named-lands : (r : Run) → Good s table r → (o : Outcome) → r .awaited ≡ Awaited.Choice (o .choice) → T (not (impossible s (r .states) o))
       → T (lands (live table) (nextTo s (r .states) o (s .count)))

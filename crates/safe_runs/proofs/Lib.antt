@@ -9,4 +9,5 @@ pub mod Told
 pub mod Moves
 pub mod Good
 pub mod Safe
+pub mod Played
 pub mod Built

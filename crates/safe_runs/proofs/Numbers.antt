@@ -1,7 +1,7 @@
--- The numbers that a start, an ask and a report can refuse with. Assumes nothing.
+-- The numbers that a start, an ask and a report can refuse with; in the paper's terms, an answer's number is 0 or one of them. Assumes nothing.
 use mathlib.Core.Path.{_≡_, refl, subst}
 use mathlib.Core.Bool.{Bool}
-use mathlib.Core.List.{List, Memᴰ·append-left}
+use mathlib.Core.List.{List, _∷_, List·Memᴰ·head, List·Memᴰ·tail, Memᴰ·append-left}
 use Prim.Native.Nat.{ℕ}
 use Rattle.arena.specs.Tests.{_∈_}
 use Rattle.tasks.specs.declared.refusals.Refusal.{Refusal}
@@ -17,8 +17,8 @@ use Rattle.guard.specs.declared.runs.Taken.{Taken}
 use Rattle.guard.specs.declared.runs.Taken.the-variants as Taken
 use Rattle.guard.specs.declared.asks.Chosen.{Chosen}
 use Rattle.guard.specs.declared.asks.Chosen.the-variants as Chosen
-use Rattle.guard.specs.Runs.{startTested, startOf}
-use Rattle.guard.specs.Ask.{askGiven, askOf}
+use Rattle.guard.specs.Runs.{startTested, startOf, saidTaken}
+use Rattle.guard.specs.Ask.{askGiven, askOf, saidChosen}
 use Rattle.guard.specs.Report.{reportOf}
 use Rattle.safe_runs.proofs.Cases.{ask-case, named-case, report-case}
 
@@ -39,6 +39,14 @@ start-number s reading f e = subst (TakenOr setNumbers) e (by (testSet s) refl)
     by (Tested.Refused f) q = refused-listed s f q
     by (Tested.States n) q = tt
 
+-- a start gets an answer, number 0, or one numbered refusal
+pub start-said : (s : Set) (reading : ℕ) → saidTaken (startOf s reading .answer) .number ∈ 0 ∷ setNumbers
+start-said s reading = by (startOf s reading .answer) refl
+  where
+    by : (a : Taken) → startOf s reading .answer ≡ a → saidTaken a .number ∈ 0 ∷ setNumbers
+    by Taken.Done q = List·Memᴰ·head refl
+    by (Taken.Refused f) q = List·Memᴰ·tail (start-number s reading f q)
+
 -- ASK
 pub ask-number : (s : Set) (table : List ℕ) (r : Run) (p : ℕ) (f : Refusal) → askOf s table r p .answer ≡ Chosen.Refused f → f .number ∈ askNumbers
 unfolding askGiven
@@ -54,6 +62,14 @@ ask-number s table r p f e =
     (λ _. listed-in 16 askNumbers tt)
     (λ _. tt))
 
+-- an ask gets an answer, number 0, or one numbered refusal
+pub ask-said : (s : Set) (table : List ℕ) (r : Run) (p : ℕ) → saidChosen (askOf s table r p .answer) .number ∈ 0 ∷ askNumbers
+ask-said s table r p = by (askOf s table r p .answer) refl
+  where
+    by : (a : Chosen) → askOf s table r p .answer ≡ a → saidChosen a .number ∈ 0 ∷ askNumbers
+    by (Chosen.Choice c) q = List·Memᴰ·head refl
+    by (Chosen.Refused f) q = List·Memᴰ·tail (ask-number s table r p f q)
+
 -- REPORT
 pub report-number : (s : Set) (r : Run) (reading : ℕ) (finished : Bool) (arrivals : ℕ) (f : Refusal)
     → reportOf s r reading finished arrivals .answer ≡ Taken.Refused f → f .number ∈ reportNumbers
@@ -68,3 +84,11 @@ report-number s r reading finished arrivals f e =
     (λ _. listed-in 18 reportNumbers tt)
     (λ _ _. listed-in 19 reportNumbers tt)
     (λ _ _. tt)))
+
+-- a report gets an answer, number 0, or one numbered refusal
+pub report-said : (s : Set) (r : Run) (reading : ℕ) (finished : Bool) (arrivals : ℕ) → saidTaken (reportOf s r reading finished arrivals .answer) .number ∈ 0 ∷ reportNumbers
+report-said s r reading finished arrivals = by (reportOf s r reading finished arrivals .answer) refl
+  where
+    by : (a : Taken) → reportOf s r reading finished arrivals .answer ≡ a → saidTaken a .number ∈ 0 ∷ reportNumbers
+    by Taken.Done q = List·Memᴰ·head refl
+    by (Taken.Refused f) q = List·Memᴰ·tail (report-number s r reading finished arrivals f q)

@@ -3,3 +3,4 @@ pub mod Apart
 pub mod Begun
 pub mod RoundTrips
 pub mod Numbers
+pub mod Keeps

@@ -5,16 +5,17 @@ use mathlib.Core.List.{List, [], _∷_, _++_}
 use Prim.Native.Nat.{ℕ, _≤_, _<_}
 use native.Mathlib.Omega.{arith}
 use lib.Dec.{leb, ltb}
-use lib.ListN.{length, take, drop}
+use lib.ListN.{length, getD, take, drop}
 use lib.Seq.{take-at}
 use Rattle.tasks.specs.declared.sets.Set.{Set}
 use Rattle.tasks.specs.declared.sets.Tested.{Tested}
 use Rattle.tasks.specs.declared.sets.Tested.the-variants.{States, Refused as FailedWith}
-use Rattle.tasks.specs.Refusals.{answered, refusing, short}
+use Rattle.tasks.specs.Refusals.{answered, refusing, short, writingNumbers}
 use Rattle.tasks.specs.Sets.{Sized, testSet}
 use Rattle.sheet_form.specs.Form.{longest, Form, fits, stops, Member}
 use Rattle.sheet_form.specs.Sets.{setOf, sheetOf, textOf}
 use Rattle.sheet_form.proofs.Places.{form}
+use Rattle.tasks.proofs.Numbers.{between}
 use Rattle.tasks.proofs.Valid.{valid}
 use Rattle.sheet_form.proofs.Trips.{text-back, sheet-formed, set-back}
 use Rattle.sheet_form.proofs.Lengths.{sheet-short}
@@ -27,6 +28,7 @@ use Rattle.sheet_writer.specs.declared.Wrote.{Wrote}
 use Rattle.sheet_writer.specs.declared.Wrote.the-variants.{Length, Refused}
 use Rattle.sheet_writer.specs.Writing.{Written, leaving, placed, testedWrite, writeOf, saidWrote}
 use Rattle.sheet_writer.proofs.Placed.{placed-short, placed-fits}
+use Rattle.sheet.proofs.Numbers.{write-number}
 
 -- a set that was taken
 abbrev taken : Set → SheetRead
@@ -86,9 +88,17 @@ write-read t q e g b = form-back t (form t) (ltb longest (length t)) q e g b
 
 -- BOTH IN THE PAPER'S TERMS
 
-pub read-written-said : (s : Set) → Sized s → (b d : List ℕ) (n : ℕ) → leaving (Length n) d ≡ writeOf s b
+-- an answer with nothing refused is a length
+said-length : (s : Set) (b : List ℕ) (n : ℕ) (r : Wrote) → r ≡ writeOf s b .answer → saidWrote r ≡ answered (n ∷ []) → r ≡ Length n
+said-length s b n (Length m) e a = ap (λ a. Length (getD (a .values) 0 0)) a
+said-length s b n (Refused f) e a = absurd (omega (arith, between 1 21 writingNumbers tt (f .number) (write-number s b f (sym e)) .0, ap (λ a. a .number) a))
+
+-- what writing left, where it answered n: its first n bytes read back to the set
+pub read-written-said : (s : Set) → Sized s → (b d : List ℕ) (r : Wrote) → leaving r d ≡ writeOf s b → (n : ℕ) → saidWrote r ≡ answered (n ∷ [])
     → (q : SheetRead) → q ≡ readText (take n d) → saidRead q ≡ answered (setValues s)
-read-written-said s z b d n e q r = ap saidRead (read-written s z b d n e q r)
+read-written-said s z b d r e n a q f =
+    let l = said-length s b n r (ap (λ (w : Written). w .answer) e) a in
+    ap saidRead (read-written s z b d n (ap (λ r. leaving r d) (sym l) ∙ e) q f)
 
 -- the text t is written into the buffer b: whole, with b's own bytes beyond it; where b is too short not at all, and refused with 7 and the length of t
 pub record Rewritten (t b : List ℕ) (w : Written) : Type 0 where

@@ -5,3 +5,4 @@ pub mod Numbers
 pub mod Opening
 pub mod Trips
 pub mod OneSet
+pub mod Keeps

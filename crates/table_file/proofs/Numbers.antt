@@ -1,7 +1,7 @@
--- The numbers that the writer and the opener can refuse with. Assumes nothing.
+-- The numbers that the writer and the opener can refuse with; in the paper's terms, an answer's number is 0 or one of them. Assumes nothing.
 use mathlib.Core.Path.{_≡_, refl, sym, subst}
 use mathlib.Core.Bool.{not, _||_}
-use mathlib.Core.List.{List, Memᴰ·append-left}
+use mathlib.Core.List.{List, _∷_, List·Memᴰ·head, List·Memᴰ·tail, Memᴰ·append-left}
 use Prim.Native.Nat.{ℕ}
 use native.Mathlib.Omega.{arith}
 use lib.Dec.{eqb, eqb→eq, ltb}
@@ -26,8 +26,8 @@ use Rattle.table_file.specs.declared.writer.Written.the-variants as Writ
 use Rattle.table_file.specs.declared.opener.Opened.{Opened}
 use Rattle.table_file.specs.declared.opener.Opened.the-variants as Opened
 use Rattle.table_file.specs.Files.{headerLength, fileLength}
-use Rattle.table_file.specs.Write.{writeVerdict, writeTested, writeOf}
-use Rattle.table_file.specs.Open.{other, present, openVerdict, openPassed, openTested, openOf}
+use Rattle.table_file.specs.Write.{writeVerdict, writeTested, writeOf, saidWritten}
+use Rattle.table_file.specs.Open.{other, present, openVerdict, openPassed, openTested, openOf, saidOpened}
 
 -- FILE WRITING
 pub write-number : (s : Set) (table : List ℕ) (m : ℕ) (f : Refusal) → writeOf s table m ≡ Written.Refused f → f .number ∈ testNumbers
@@ -46,6 +46,14 @@ write-number s table m f e = subst Number e (by (testSet s) refl)
     by (Tested.States S) q =
         by-cond Number (ltb (length table) S) _ _ (λ _. listed-in 7 testNumbers tt)
         (λ _. by-cond Number (ltb m (fileLength s)) _ _ (λ _. listed-in 7 testNumbers tt) (λ _. judged (testOf s table) refl))
+
+-- a file's writing gets an answer, number 0, or one numbered refusal
+pub write-said : (s : Set) (table : List ℕ) (m : ℕ) → saidWritten (writeOf s table m) .number ∈ 0 ∷ testNumbers
+write-said s table m = by (writeOf s table m) refl
+  where
+    by : (a : Written) → writeOf s table m ≡ a → saidWritten a .number ∈ 0 ∷ testNumbers
+    by (Written.Length n) q = List·Memᴰ·head refl
+    by (Written.Refused f) q = List·Memᴰ·tail (write-number s table m f q)
 
 -- OPEN
 pub open-number : (s : Set) (file : List ℕ) (f : Refusal) → openOf s file ≡ Opened.Refused f → f .number ∈ openNumbers
@@ -71,3 +79,11 @@ open-number s file f e = subst Number e (by (testSet s) refl)
         (λ _. by-cond Number (other s file 5 (present s file)) _ _ (λ _. listed-in 12 openNumbers tt)
         (λ _. by-cond Number (not (eqb (length file) (fileLength s))) _ _ (λ _. listed-in 11 openNumbers tt)
         (λ r. part (passed s S q) (eqb→eq (length file) (fileLength s) (not-not (eqb (length file) (fileLength s)) r))))))
+
+-- an opening gets an answer, number 0, or one numbered refusal
+pub open-said : (s : Set) (file : List ℕ) → saidOpened (openOf s file) .number ∈ 0 ∷ openNumbers
+open-said s file = by (openOf s file) refl
+  where
+    by : (a : Opened) → openOf s file ≡ a → saidOpened a .number ∈ 0 ∷ openNumbers
+    by Opened.Opens q = List·Memᴰ·head refl
+    by (Opened.Refused f) q = List·Memᴰ·tail (open-number s file f q)

@@ -65,17 +65,17 @@ module _ (s : Set) (file : List ℕ) (o : Opening s file) where
       sym (take-append-drop k file) ∙ ap₂ (λ (x y : List ℕ). x ++ y) e (sym (take-all (statesOf s) (drop k file) (le-of-eq part-length)))
 
 -- what a file that was written says: the set passes, and the table is long enough and passes the test
-record Wrote (s : Set) (t : List ℕ) (r : Written) : Type 0 where
-  set : Passed s
-  table : statesOf s ≤ length t
-  test : testOf s t ≡ Passes
-  answer : r ≡ Length (fileLength s)
+pub record Wrote (s : Set) (t : List ℕ) (r : Written) : Type 0 where
+  pub set : Passed s
+  pub table : statesOf s ≤ length t
+  pub test : testOf s t ≡ Passes
+  pub answer : r ≡ Length (fileLength s)
 
 on : (b : Bool) (f : Refusal) (r x : Written) → saidWritten r .number ≡ 0 → 1 ≤ f .number → r ≡ cond b (Written.Refused f) x → T (not b) × (r ≡ x)
 on true f r x a h e = absurd (omega (arith, ap (λ r. saidWritten r .number) e))
 on false f r x a h e = (tt, e)
 
-wrote : (s : Set) (t : List ℕ) (k : ℕ) (r : Written) → saidWritten r .number ≡ 0 → r ≡ writeOf s t k → Wrote s t r
+pub wrote : (s : Set) (t : List ℕ) (k : ℕ) (r : Written) → saidWritten r .number ≡ 0 → r ≡ writeOf s t k → Wrote s t r
 wrote s t k r a = go (testSet s) refl
   where
     tested : (v : Verdict) → testOf s t ≡ v → r ≡ writeVerdict s v → (testOf s t ≡ Passes) × (r ≡ Length (fileLength s))
