@@ -100,14 +100,15 @@ def readings_sets():
 
 # ---- readings: tick and shield -------------------------------------------
 
-def removal_in_place(moves):
-    """The wrong way: states removed while a round is going on."""
+def removal_in_place(moves, step=1):
+    """The wrong way: states removed while a round is going on, from the
+    lowest index on, or with step -1 from the highest."""
     removed_in = [0] * len(moves)
     left = [True] * len(moves)
     k = 0
     while True:
         any_fell = False
-        for index in range(len(moves)):
+        for index in range(len(moves))[::step]:
             if left[index] and not any(shield.is_good(successors, left)
                                        for successors
                                        in moves[index].values()):
@@ -177,9 +178,13 @@ def readings_shield():
     at_once = set_of("hard 3 1,2 3", "hard 1 1 1,2")
     same("11 r", build_of(at_once)[0], refused(8, 3))
     same("11 r in place", removal_in_place(game.all_moves(at_once))[0][0], 2)
+    same("11 r from the highest",
+         removal_in_place(game.all_moves(at_once), -1)[0][0], 1)
     at_once = set_of("hard 4 2 4", "hard 2 1 2")
     same("11 R", build_of(at_once)[0][1], 3)
     same("11 R in place", removal_in_place(game.all_moves(at_once))[1], 2)
+    same("11 R from the highest",
+         removal_in_place(game.all_moves(at_once), -1)[1], 2)
     for lines in (["hard 3 2 4"] * 2, ["hard 2 1,2 2", "hard 2 1 2"]):
         no = set_of(*lines)
         same("11 P5 and P6 do not show it",

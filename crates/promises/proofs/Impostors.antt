@@ -1,5 +1,6 @@
 -- Removal while a round is going on leaves the right states, and other numbers: for `thirds` r is 2 if states are looked at from the lowest
--- index on, and 1 from the highest; for `quarters` R is 2 either way. The builder's contract says 3 and 3. Assumes nothing.
+-- index on, and 1 from the highest; for `quarters` R is 2 either way (worked out by oracle/selftest_sets.py, not proved here). What is proved: the
+-- builder's contract says 3 and 3. Assumes nothing.
 use mathlib.Core.Path.{_≡_, ap, ap₂, _∙_}
 use mathlib.Core.Bool.{cond}
 use mathlib.Core.List.{List, [], _∷_}
