@@ -1,5 +1,7 @@
 // Walks a run with the built table of one set, with so many asks and reports more at each tick, to be timed from outside.
 // Standard input: the count, seven records of six bytes, and three 16-bit numbers, of ticks, of asks and of reports a tick.
+#![tactic(auto)]
+
 use bench_input::{put_number, sum, wide};
 use game::states::{Job, TaskState};
 use guard::asks::{Asked, Chosen};

@@ -1,5 +1,7 @@
 // Reads one sheet over and over, to be timed from outside.
 // Standard input: two 16-bit numbers, of reads and of bytes, and 1,024 bytes of which the first are the sheet's.
+#![tactic(auto)]
+
 use bench_input::{put_number, sum, wide};
 use libc::{STDIN_FILENO, STDOUT_FILENO};
 use sheet_reader::{ReadAnswer, SheetRead};

@@ -6,7 +6,7 @@ use crate::numbers::Found;
 use crate::texts;
 
 // The present length of each buffer.
-#[derive(Drop)]
+#[derive(Clone, Copy)]
 pub struct Lengths {
     pub table: u32,
     pub work: u32,

@@ -7,7 +7,7 @@ use crate::numbers::Found;
 use crate::{buffers, hexadecimal, numbers, texts};
 
 // The values of a command's words after the first: 0 for a fixed word, a buffer's number, a number, or a number of bytes.
-#[derive(Drop)]
+#[derive(Clone, Copy)]
 pub struct Values {
     pub first: u32,
     pub second: u32,
@@ -15,7 +15,7 @@ pub struct Values {
 }
 
 // The numbers that a place takes: at least lo, and below end.
-#[derive(Drop)]
+#[derive(Clone, Copy)]
 struct Range {
     lo: u64,
     end: u64,

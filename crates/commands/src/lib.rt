@@ -1,4 +1,6 @@
 // A line of bytes read to a command of docs/REPLAY.md, or found mangled.
+#![tactic(auto)]
+
 pub mod buffers;
 mod forms;
 pub mod hexadecimal;

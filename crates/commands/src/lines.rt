@@ -12,21 +12,21 @@ use crate::{forms, texts};
 pub const LONGEST: usize = 255;
 
 // A command: its row of the page, and the values of its words.
-#[derive(Drop)]
+#[derive(Clone, Copy)]
 pub struct Command {
     pub kind: usize,
     pub values: Values,
 }
 
 // What a line says.
-#[derive(Drop)]
+#[derive(Clone, Copy)]
 pub enum Parsed {
     Mangled,
     Taken(Command),
 }
 
 // What a line says by one row.
-#[derive(Drop)]
+#[derive(Clone, Copy)]
 enum Tried {
     Unfit,
     Fits(Values),

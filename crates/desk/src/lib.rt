@@ -1,4 +1,6 @@
 // What a log of commands is carried out on, and each command of docs/REPLAY.md.
+#![tactic(auto)]
+
 mod run_commands;
 mod run_fields;
 mod set_commands;
@@ -18,7 +20,7 @@ use tasks::sets;
 use tasks::sets::Set;
 
 // What is held beside the bytes of the buffers.
-#[derive(Drop)]
+#[derive(Clone, Copy)]
 pub struct Desk {
     pub set: Set,
     pub run: Run,

@@ -1,4 +1,6 @@
 // The four buffers' bytes, and the commands on them.
+#![tactic(auto)]
+
 pub mod bytes;
 pub mod say;
 

@@ -1,4 +1,6 @@
 // Worked cases of the writer and the opener, a line each.
+#![tactic(auto)]
+
 use cases::lines::{put, put_bytes, put_number, put_refusal};
 use cases::sets::{V1, V2, V3, V16, example, hard, named, one, pair, soft};
 use shield::builder;

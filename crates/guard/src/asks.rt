@@ -14,14 +14,14 @@ use tasks::sets::{Set, Tested};
 use tasks::{refusals, sets};
 
 // What an ask answers: a choice, 0 idle and i task i, or the refusal.
-#[derive(Drop)]
+#[derive(Clone, Copy)]
 pub enum Chosen {
     Choice(u8),
     Refused(Refusal),
 }
 
 // The answer, and the run after it.
-#[derive(Drop)]
+#[derive(Clone, Copy)]
 pub struct Asked {
     pub answer: Chosen,
     pub run: Run,

@@ -18,7 +18,7 @@ use tasks::sets::{Set, Task, Tested};
 use tasks::{refusals, sets};
 
 // What a report says of the awaited choice: whether the run job finished, and which jobs arrived.
-#[derive(Drop)]
+#[derive(Clone, Copy)]
 pub struct Outcome {
     pub choice: u8,
     pub finished: bool,
@@ -26,7 +26,7 @@ pub struct Outcome {
 }
 
 // Whether the report is taken, and the run after it.
-#[derive(Drop)]
+#[derive(Clone, Copy)]
 pub struct Reported {
     pub answer: Taken,
     pub run: Run,

@@ -13,7 +13,7 @@ use tasks::sets::{Set, Task, Tested};
 pub const TICK_LIMIT: u32 = 16777216;
 
 // The jobs of a task, counted.
-#[derive(Drop)]
+#[derive(Clone, Copy)]
 pub struct Counts {
     pub arrived: u32,
     pub finished: u32,
@@ -21,14 +21,14 @@ pub struct Counts {
 }
 
 // Whether a report is awaited, and for which choice.
-#[derive(Drop)]
+#[derive(Clone, Copy)]
 pub enum Awaited {
     Nothing,
     Choice(u8),
 }
 
 // A run: each task's state and counts, the ticks, the substitutions, the last reading, and what is awaited.
-#[derive(Drop)]
+#[derive(Clone, Copy)]
 pub struct Run {
     pub states: [TaskState; 7],
     pub counts: [Counts; 7],
@@ -39,14 +39,14 @@ pub struct Run {
 }
 
 // Whether a start or a report is taken.
-#[derive(Drop)]
+#[derive(Clone, Copy)]
 pub enum Taken {
     Done,
     Refused(Refusal),
 }
 
 // What a start gives.
-#[derive(Drop)]
+#[derive(Clone, Copy)]
 pub struct Started {
     pub answer: Taken,
     pub run: Run,

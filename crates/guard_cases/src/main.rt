@@ -1,4 +1,6 @@
 // Worked cases of a guarded run: start, ask and report, a line each.
+#![tactic(auto)]
+
 mod asked;
 mod fits;
 mod made;

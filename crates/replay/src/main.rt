@@ -1,4 +1,6 @@
 // A log of commands on standard input, an answer line for each of its lines.
+#![tactic(auto)]
+
 ghost use Rattle.std.specs.Prelude.{◌≡◌};
 ghost use Rattle.desk.specs.After.{held_of};
 ghost use Rattle.replay.specs.Log.{line_after, no_log, logged_of, ended_line, byte_after, piece_after};
@@ -13,7 +15,7 @@ use libc::STDIN_FILENO;
 const KEPT: u32 = lines::LONGEST as u32 + 1;
 
 // What is kept from byte to byte: the desk, the bytes of the line so far, the lines before it, and whether the log has ended.
-#[derive(Drop)]
+#[derive(Clone, Copy)]
 struct Log {
     desk: Desk,
     used: u32,

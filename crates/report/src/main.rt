@@ -1,4 +1,6 @@
 // The report program: a sheet on standard input, the report on standard output.
+#![tactic(auto)]
+
 use libc::{STDIN_FILENO, STDOUT_FILENO};
 use reporter::Reported;
 

@@ -1,4 +1,6 @@
 // Worked reports: what the call answers, how many bytes of output, table and work have changed, and the report.
+#![tactic(auto)]
+
 ghost use Rattle.io.specs.Counts.{IsPrefixLen};
 
 use cases::lines::{put, put_number, put_refusal};

@@ -1,4 +1,6 @@
 // The report's lines, each put into a lent buffer from a place on. What does not fit is left out.
+#![tactic(auto)]
+
 ghost use Rattle.std.specs.Prelude.{◌≡◌, ◌+◌, ◌/◌, ◌<◌, min, length};
 ghost use Rattle.sheet_form.specs.Form.{each};
 ghost use Rattle.texts.specs.Puts.{Puts};

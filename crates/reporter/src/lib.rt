@@ -1,4 +1,6 @@
 // The report on a sheet: its set and that set's shield in a few lines, or the line of a refusal, into a lent buffer.
+#![tactic(auto)]
+
 ghost use Rattle.std.specs.Prelude.{◌≡◌, length, take};
 ghost use Rattle.tasks.specs.Sets.{states_of, Passed};
 ghost use Rattle.shield.specs.Build.{build_of};
@@ -17,7 +19,7 @@ use tasks::{refusals, sets};
 pub const ROOM: usize = 390;
 
 // What reporting answers: the report's length, or the refusal.
-#[derive(Drop)]
+#[derive(Clone, Copy)]
 pub enum Reported {
     Length(u32),
     Refused(Refusal),

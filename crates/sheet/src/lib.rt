@@ -1,4 +1,6 @@
 // Sheets: a reader that holds the text and its place, the plain functions over it, and the writer.
+#![tactic(auto)]
+
 ghost use Rattle.std.specs.Prelude.{◌≡◌, ◌+◌, drop};
 ghost use Rattle.sheet_reader.specs.Reading.{read_text, reach_text};
 ghost use Rattle.sheet_writer.specs.Writing.{leaving, write_of};
@@ -8,7 +10,7 @@ use sheet_writer::Wrote;
 use tasks::sets::Set;
 
 // A reader holds the text and its place.
-#[derive(Drop)]
+#[derive(Clone, Copy)]
 pub struct Reader<'a> {
     pub text: &'a [u8],
     pub at: usize,

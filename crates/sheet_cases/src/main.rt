@@ -1,5 +1,7 @@
 // The worked cases of sheets. Standard input has the texts to read, each after a label and `|` and before `~`. Of each the answer, the
 // reader's place and the set beside the answer are printed and, where the set was taken, what is written of it.
+#![tactic(auto)]
+
 mod say;
 
 ghost use Rattle.std.specs.Prelude.{◌≤◌, ◌<◌, length};

@@ -8,7 +8,7 @@ use crate::state::State;
 use tasks::sets::Task;
 
 // A list as it is read: its last number and its bits; 17 and no bits once it does not rise.
-#[derive(Drop)]
+#[derive(Clone, Copy)]
 pub struct Kept {
     pub last: u8,
     pub bits: u16,

@@ -23,7 +23,7 @@ pub const FAULT: u8 = 8;
 
 // What is kept of the bytes read, beside the name and the tasks. `at`: how many bytes of the word or the name, or the number begun, 0
 // where none is. `last` and `bits`: the list begun. `count`: the tasks that have ended.
-#[derive(Drop)]
+#[derive(Clone, Copy)]
 pub struct State {
     pub mode: u8,
     pub at: u8,

@@ -1,4 +1,6 @@
 // The reader of sheets, over a text and a place of it.
+#![tactic(auto)]
+
 ghost use Rattle.std.specs.Prelude.{◌≡◌, ◌+◌, length, drop};
 ghost use Rattle.sheet_reader.specs.Reading.{refused_with, read_text, reach_text};
 
@@ -9,14 +11,14 @@ use tasks::sets::{Set, Tested};
 use tasks::{refusals, sets};
 
 // What reading a sheet answers, beside the set.
-#[derive(Drop)]
+#[derive(Clone, Copy)]
 pub enum ReadAnswer {
     Taken,
     Refused(Refusal),
 }
 
 // The set that was read; zeros beside a refusal.
-#[derive(Drop)]
+#[derive(Clone, Copy)]
 pub struct SheetRead {
     pub answer: ReadAnswer,
     pub set: Set,

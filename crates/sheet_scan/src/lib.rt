@@ -1,4 +1,6 @@
 // One pass over the bytes of a sheet: how far its form goes, and the set that it says.
+#![tactic(auto)]
+
 mod adds;
 mod steps;
 
@@ -11,7 +13,7 @@ use tasks::sets;
 use tasks::sets::Set;
 
 // What a pass finds: whether the text is a sheet's, how many of its bytes are a beginning of one, and the set; zeros where it is none's.
-#[derive(Drop)]
+#[derive(Clone, Copy)]
 pub struct Scanned {
     pub whole: bool,
     pub reach: usize,

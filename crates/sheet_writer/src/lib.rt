@@ -1,4 +1,6 @@
 // The writer of sheets: the one sheet that a set has, into a lent buffer.
+#![tactic(auto)]
+
 mod page;
 
 ghost use Rattle.std.specs.Prelude.{◌≡◌};
@@ -12,7 +14,7 @@ use tasks::sets::{Set, Tested};
 use tasks::{refusals, sets};
 
 // What writing a sheet answers: its length, or the refusal.
-#[derive(Drop)]
+#[derive(Clone, Copy)]
 pub enum Wrote {
     Length(u32),
     Refused(Refusal),

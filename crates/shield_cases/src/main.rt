@@ -1,4 +1,6 @@
 // Worked cases of the builder and the tester, a line each.
+#![tactic(auto)]
+
 use cases::lines::{checksum, put, put_bytes, put_number, put_refusal};
 use cases::sets::{
     V1, V2, V3, V4, V5, V13, V14, V16, all, example, hard, one, pair, soft, three, two,

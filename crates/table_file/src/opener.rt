@@ -12,7 +12,7 @@ use tasks::sets::{Set, Tested};
 use tasks::{refusals, sets};
 
 // What the opener answers.
-#[derive(Drop)]
+#[derive(Clone, Copy)]
 pub enum Opened {
     Opens,
     Refused(Refusal),

@@ -12,7 +12,7 @@ use tasks::sets::{Set, Tested};
 use tasks::{refusals, sets};
 
 // What the writer answers: the file's length, or the refusal.
-#[derive(Drop)]
+#[derive(Clone, Copy)]
 pub enum Written {
     Length(u32),
     Refused(Refusal),

@@ -1,4 +1,6 @@
 // Worked cases of lists, names, tasks and sets, a line each.
+#![tactic(auto)]
+
 use cases::lines::{put, put_number, put_refusal};
 use cases::sets::{
     V1, V2, V3, V4, V5, V6, V7, V13, V14, V15, V16, all, blank, hard, named, one, set, soft, task,

@@ -1,4 +1,6 @@
 // Texts put into a lent buffer one after the other, each from the place where the last one ended. What does not fit is left out.
+#![tactic(auto)]
+
 ghost use Rattle.std.specs.Prelude.{[], ◌∷◌, take};
 ghost use Rattle.tasks.specs.Sets.{characters};
 ghost use Rattle.texts.specs.Puts.{Puts};
