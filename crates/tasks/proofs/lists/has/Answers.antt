@@ -1,0 +1,16 @@
+-- A value is on the list where its bit is set.
+use mathlib.Core.Path.{sym, ap}
+use borrow.Author.Rules.{rules}
+use Rattle.tasks.specs.Lists.{listed}
+use Rattle.tasks.proofs.ListLaws.{listed_at, listed_past}
+use Rattle.tasks.proofs.lists.has.Goals as goal
+
+pub returns-then-v-eq0 : goal.returns-then-v-eq0
+unfolding listed
+returns-then-v-eq0 c = sym (ap (listed c.args.list) c.if-v-eq0.true)
+
+pub returns-then-v-gt16 : goal.returns-then-v-gt16
+returns-then-v-gt16 c = sym (listed_past _ _ c.if-v-gt16.true)
+
+pub returns : goal.returns
+returns c = listed_at _ _ c.if-v-eq0.false c.if-v-gt16.false
