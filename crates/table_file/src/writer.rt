@@ -39,7 +39,7 @@ fn put_file(s: Set, n: u32, table: &[u8], file: &mut [u8])
     put_header(s, n, file);
     let head = headers::header_length(s);
     let size = n as usize;
-    bytes::copy(&table[..size], &mut file[head..]);
+    file[head..head + size].copy_from_slice(&table[..size]);
 }
 
 // A buffer shorter than n bytes.

@@ -1,0 +1,15 @@
+-- No entry before i is faulty.
+use borrow.Author.Rules.{rules}
+use mathlib.Core.Path.{◌≡◌, sym, ap, ◌∙◌}
+use Prim.Native.Nat.{◌-◌, ◌≤◌}
+use native.Mathlib.Omega.{arith}
+use Rattle.arena.specs.Tests.{first}
+use Rattle.shield.specs.Test.{faulty}
+use Rattle.shield.proofs.TestLaws.{first_here, first_next, first_end}
+use Rattle.shield.proofs.tester.first_fault.Given as goal
+
+abbrev pub invariant-loop-i : goal.invariant-loop-i
+invariant-loop-i l = (l.i ≤ l.n) × (first (faulty l.s l.table) l.n 0 ≡ first (faulty l.s l.table) (l.n - l.i) l.i)
+
+abbrev pub decreases-loop-i : goal.decreases-loop-i
+decreases-loop-i l = l.n - l.i
