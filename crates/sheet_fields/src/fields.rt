@@ -132,6 +132,7 @@ fn comma(s: State) -> State
 }
 
 // One byte in a number or a list.
+#[tactic(auto, unfolding(crate::specs::Fields::field_of))]
 pub fn in_field(s: State, b: u8) -> State
     ensures { result ≡ field_of s b }
 {
