@@ -40,6 +40,7 @@ fn word_length(mode: u8) -> u8
 }
 
 // One byte in a fixed word. No state that is reached stands past its word's end: the first test only lets the contract hold for every state.
+#[tactic(auto, unfolding(crate::specs::Steps::word_of))]
 fn in_word(s: State, b: u8) -> State
     ensures { result ≡ word_of s b }
 {
@@ -109,6 +110,7 @@ fn at_line(s: State, b: u8) -> State
 }
 
 // One byte. A pass stops at a fault, so the last answer only lets the contract hold for every state.
+#[tactic(auto, unfolding(crate::specs::Steps::step_of))]
 pub(crate) fn step(s: State, b: u8) -> State
     ensures { result ≡ step_of s b }
 {
