@@ -10,14 +10,12 @@ use Rattle.arena.proofs.Tests.{by_cond}
 use Rattle.tasks.specs.declared.refusals.Refusal.{Refusal}
 use Rattle.tasks.specs.declared.sets.Set.{Set}
 use Rattle.tasks.specs.declared.sets.Tested.{Tested}
-use Rattle.tasks.specs.declared.sets.Tested.TheVariants as Tested
 use Rattle.tasks.specs.Refusals.{writing_numbers}
 use Rattle.tasks.specs.Sets.{test_set}
 use Rattle.tasks.proofs.Numbers.{listed_in}
 use Rattle.tasks.proofs.Valid.{refused_listed}
 use Rattle.sheet_form.specs.Sets.{text_of}
 use Rattle.sheet_writer.specs.declared.Wrote.{Wrote}
-use Rattle.sheet_writer.specs.declared.Wrote.TheVariants as Wrote
 use Rattle.sheet_writer.specs.Writing.{Written, tested_write, write_of, said_wrote}
 
 pub write_number : (s : Set) (b : List ℕ) (f : Refusal) → (write_of s b).answer ≡ Wrote.Refused f → f.number ∈ writing_numbers
