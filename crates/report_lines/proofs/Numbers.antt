@@ -8,7 +8,7 @@ use native.Mathlib.Omega.{arith}
 use lib.Dec.{ltb}
 use lib.ListN.{length, length-append}
 use borrow.Author.Tests.{lt-ltb, le-ltb}
-use Rattle.io.specs.Digits.{hex_digit_ascii, last_digits, IsDigitCount}
+use Rattle.report_lines.specs.Digits.{hex_digit_ascii, last_digits, IsDigitCount}
 use Rattle.arena.proofs.Tests.{by_cond}
 use Rattle.report_lines.specs.Lines.{digits_to, number_text, field}
 
@@ -21,7 +21,7 @@ digits_more : (k n : ℕ) → 10 ≤ n → digits_to (suc k) n ≡ digits_to k (
 unfolding digits_to
 digits_more k n h = ap (λ b. cond b ((48 + n) ∷ []) (digits_to k (n / 10) ++ ((48 + n % 10) ∷ []))) (le-ltb n 10 h)
 
-glyph_digit : (d : ℕ) → d < 10 → hex_digit_ascii d ≡ 48 + d
+pub glyph_digit : (d : ℕ) → d < 10 → hex_digit_ascii d ≡ 48 + d
 glyph_digit d h = ap (λ b. cond b (48 + d) (87 + d)) (lt-ltb d 10 h)
 
 -- ten or more where there are two digits or more, and one digit less in the tens

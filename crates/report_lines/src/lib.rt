@@ -1,6 +1,8 @@
 // The report's lines, each put into a lent buffer from a place on. What does not fit is left out.
 #![tactic(auto)]
 
+mod digits;
+
 ghost use Rattle.std.specs.Prelude.{◌≡◌, ◌+◌, ◌/◌, ◌<◌, min, length};
 ghost use Rattle.sheet_form.specs.Form.{each};
 ghost use Rattle.texts.specs.Puts.{Puts};
@@ -15,7 +17,7 @@ fn put_number(buf: &mut [u8], at: usize, n: u64) -> usize
     ensures { Puts buf.old buf.new at result (number_text n) }
 {
     let mut digits = [0u8; 20];
-    let k = io::decimal(n, &mut digits);
+    let k = digits::decimal(n, &mut digits);
     texts::put_word(buf, at, &digits[..k])
 }
 
