@@ -1,9 +1,10 @@
-use Rattle.std.proofs.Common.{rules, ◌≡◌, ◌++◌, ◌≤◌, length, drop, ℕ, ◌+◌, ◌-◌, ◌*◌, ◌<◌, ◌/◌, ◌%◌, Bool, true, false, nat_eq, nat_lt, List, [], ◌∷◌, slice_index_or, slice_set, bit_and, bit_or, Fits, w8, w32, w64, Bor, MutBor}
-use Rattle.tasks.specs.Sets.{states_of, Passed}
-use Rattle.table_file.specs.Files.{header, header_length, file_of, file_length}
-use Rattle.table_file.specs.Write.{too_short, Writes}
+-- The header, and behind it the table's first n entries.
+use Rattle.std.proofs.Common.{◌≡◌, length, rules}
+use Rattle.table_file.proofs.FileLaws.{header_length_lem}
+use Rattle.table_file.proofs.WriteLaws.{stored}
 use Rattle.table_file.proofs.writer.put_file.Goals as goal
 
--- src/writer.rt:35:1
 pub returns : goal.returns
-returns c = ?
+returns c =
+    let name : length c.args.s.name ≡ 16 = search rules in
+    stored c.args.s c.args.table.now c.args.file.now _ _ _ c.args.n (header_length_lem c.args.s name) c.header_length-head.ensures c.requires.1 c.put_header.ensures c.copy_from_slice.ensures.after
