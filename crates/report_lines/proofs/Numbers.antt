@@ -1,5 +1,5 @@
 -- A number in base ten, and how many digits it has. Assumes nothing.
-use mathlib.Core.Path.{◌≡◌, sym, ap, ap₂, ◌∙◌, subst}
+use mathlib.Core.Path.{◌≡◌, refl, sym, ap, ap₂, ◌∙◌, subst}
 use mathlib.Core.Bool.{cond}
 use mathlib.Core.List.{List, [], ◌∷◌, ◌++◌}
 use Prim.Native.Nat.{ℕ, zero, suc, ◌+◌, ◌-◌, ◌*◌, ◌/◌, ◌%◌, ◌^◌, ◌≤◌, ◌<◌}
@@ -15,7 +15,7 @@ use Rattle.report_lines.specs.Lines.{digits_to, number_text, field}
 -- a number below 10 is its digit, and any other is that of its tens and its last digit
 digits_one : (k n : ℕ) → n < 10 → digits_to (suc k) n ≡ (48 + n) ∷ []
 unfolding digits_to
-digits_one k n h = ap (λ b. cond b ((48 + n) ∷ []) (digits_to k (n / 10) ++ ((48 + n % 10) ∷ []))) (lt-ltb n 10 h)
+digits_one k n h = rw (lt-ltb n 10 h) refl
 
 digits_more : (k n : ℕ) → 10 ≤ n → digits_to (suc k) n ≡ digits_to k (n / 10) ++ ((48 + n % 10) ∷ [])
 unfolding digits_to
