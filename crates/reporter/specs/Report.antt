@@ -4,7 +4,6 @@ use Rattle.tasks.specs.declared.sets.Set.{Set}
 use Rattle.tasks.specs.Refusals.{Said, answered, refusing, short}
 use Rattle.tasks.specs.Sets.{states_of}
 use Rattle.shield.specs.declared.builder.Built.{Built}
-use Rattle.shield.specs.declared.builder.Built.TheVariants as Built
 use Rattle.shield.specs.Shield.{shield_table}
 use Rattle.shield.specs.Build.{build_of, table_built, work_built}
 use Rattle.sheet_reader.specs.declared.ReadAnswer.{ReadAnswer}
