@@ -1,6 +1,6 @@
 -- A number in base ten, and how many digits it has. Assumes nothing.
-use mathlib.Core.Path.{◌≡◌, refl, sym, ap, ap₂, ◌∙◌, subst}
-use mathlib.Core.Bool.{cond}
+use mathlib.Core.Path.{◌≡◌, sym, ap, ap₂, ◌∙◌, subst}
+use mathlib.Core.Bool.{Bool, true, cond}
 use mathlib.Core.List.{List, [], ◌∷◌, ◌++◌}
 use Prim.Native.Nat.{ℕ, zero, suc, ◌+◌, ◌-◌, ◌*◌, ◌/◌, ◌%◌, ◌^◌, ◌≤◌, ◌<◌}
 use native.Mathlib.Nat.{pow-suc, one-le-pow, mod-lt, mod-eq_of_lt, zero-lt-suc, le-div_iff_mul-le, div-lt_iff_lt-mul}
@@ -12,10 +12,14 @@ use Rattle.report_lines.specs.Digits.{hex_digit_ascii, last_digits, IsDigitCount
 use Rattle.arena.proofs.Tests.{by_cond}
 use Rattle.report_lines.specs.Lines.{digits_to, number_text, field}
 
+-- where a test holds, the first of the two
+first_of : (b : Bool) (x y : List ℕ) → b ≡ true → cond b x y ≡ x
+first_of b x y e = ap (λ b. cond b x y) e
+
 -- a number below 10 is its digit, and any other is that of its tens and its last digit
 digits_one : (k n : ℕ) → n < 10 → digits_to (suc k) n ≡ (48 + n) ∷ []
 unfolding digits_to
-digits_one k n h = rw (lt-ltb n 10 h) refl
+digits_one k n h = first_of (ltb n 10) _ _ (lt-ltb n 10 h)
 
 digits_more : (k n : ℕ) → 10 ≤ n → digits_to (suc k) n ≡ digits_to k (n / 10) ++ ((48 + n % 10) ∷ [])
 unfolding digits_to

@@ -1,10 +1,7 @@
 -- A number less its last digits, and how many digits are left. Assumes nothing.
 use Rattle.std.proofs.Common.{◌≡◌, ℕ, ◌+◌, ◌-◌, ◌*◌, ◌/◌, ◌^◌, ◌<◌, ◌≤◌, sym, ap, ◌∙◌, subst, arith, add-one}
-use native.Mathlib.Nat.{le_of_suc-le-suc, one-mul, pow-zero, pow-suc, one-le-pow, pow-le-pow_right, div-div-eq-div-mul, le-div_iff_mul-le, div-lt_iff_lt-mul, lt_of_not-le}
+use native.Mathlib.Nat.{le_of_suc-le-suc, pow-suc, one-le-pow, pow-le-pow_right, div-div-eq-div-mul, le-div_iff_mul-le, div-lt_iff_lt-mul, lt_of_not-le}
 use Rattle.report_lines.specs.Digits.{IsDigitCount}
-
-pub div-pow-one : (n b : ℕ) → n / b ≡ n / b ^ 1
-div-pow-one n b = ap (λ (d : ℕ). n / d) (sym (pow-suc b 0 ∙ ap (λ (p : ℕ). p * b) (pow-zero b) ∙ one-mul b))
 
 pub div-pow-div : (n b k : ℕ) → n / b ^ k / b ≡ n / b ^ (k + 1)
 div-pow-div n b k = div-div-eq-div-mul n (b ^ k) b ∙ ap (λ (d : ℕ). n / d) (sym (pow-suc b k) ∙ ap (λ (j : ℕ). b ^ j) (sym (add-one k)))
