@@ -4,8 +4,8 @@ Makes two batches of COUNT lines from each seed from SEED on, one by make.py
 and one of mangled lines by mangle.py, gives them to the program and to the
 oracle, and compares their answers. BATCHES is 1 if it is
 not given; 0 goes on until it is stopped or a line differs. PROGRAM is
-target/bin/replay if it is not given. The exit code is not zero if a line
-differs.
+crates/replay/out/replay, which `rt run` leaves there, if it is not given. The
+exit code is not zero if a line differs.
 """
 
 import os
@@ -17,7 +17,7 @@ import mangle
 import replay
 
 HERE = os.path.dirname(os.path.abspath(__file__))
-PROGRAM = os.path.join(HERE, "..", "target", "bin", "replay")
+PROGRAM = os.path.join(HERE, "..", "crates", "replay", "out", "replay")
 
 
 def compare(name, text, program):

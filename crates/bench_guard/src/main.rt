@@ -2,13 +2,12 @@
 // Standard input: the count, seven records of six bytes, and three 16-bit numbers, of ticks, of asks and of reports a tick.
 #![tactic(auto)]
 
-use bench_input::{put_number, sum, wide};
+use bench_input::{put, put_number, sum, wide};
 use game::states::{Job, TaskState};
 use guard::asks::{Asked, Chosen};
 use guard::reports::Reported;
 use guard::runs::{Awaited, Run};
 use guard::{asks, reports, runs};
-use libc::{STDIN_FILENO, STDOUT_FILENO};
 use shield::builder;
 use tasks::lists;
 use tasks::sets::{Set, Task};
@@ -139,11 +138,12 @@ fn ticks(s: Set, table: &[u8], n: u16, asks: u16, reports: u16) -> Run {
     r
 }
 
-fn main() {
+fn main(rt: HostRuntime) {
+    let mut input = rt.stdin();
     let mut b = [0; 43];
     let mut n = [0; 6];
-    io::read_full(STDIN_FILENO, &mut b);
-    io::read_full(STDIN_FILENO, &mut n);
+    reading::fill(&mut input, &mut b);
+    reading::fill(&mut input, &mut n);
     let s = bench_input::set(b);
     let mut table = [0; 60000];
     let mut work = [0; 60000];
@@ -155,8 +155,8 @@ fn main() {
         wide(n[2], n[3]),
         wide(n[4], n[5]),
     );
-    put_number(b"ticks ", r.ticks as u64);
-    put_number(b" substitutions ", r.substitutions as u64);
-    put_number(b" sum ", r.reading as u64);
-    io::write_all(STDOUT_FILENO, b"\n");
+    put_number(&rt, b"ticks ", r.ticks as u64);
+    put_number(&rt, b" substitutions ", r.substitutions as u64);
+    put_number(&rt, b" sum ", r.reading as u64);
+    put(&rt, b"\n");
 }

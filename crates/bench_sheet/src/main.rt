@@ -2,8 +2,7 @@
 // Standard input: two 16-bit numbers, of reads and of bytes, and 1,024 bytes of which the first are the sheet's.
 #![tactic(auto)]
 
-use bench_input::{put_number, sum, wide};
-use libc::{STDIN_FILENO, STDOUT_FILENO};
+use bench_input::{put, put_number, sum, wide};
 use sheet_reader::{ReadAnswer, SheetRead};
 use tasks::sets::Set;
 
@@ -52,12 +51,13 @@ fn read_first(text: &mut [u8], bytes: u16, n: u16) -> u32 {
     reads(text, n)
 }
 
-fn main() {
+fn main(rt: HostRuntime) {
+    let mut input = rt.stdin();
     let mut b = [0; 4];
     let mut text = [0; 1024];
-    io::read_full(STDIN_FILENO, &mut b);
-    io::read_full(STDIN_FILENO, &mut text);
+    reading::fill(&mut input, &mut b);
+    reading::fill(&mut input, &mut text);
     let total = read_first(&mut text, wide(b[2], b[3]), wide(b[0], b[1]));
-    put_number(b"sum ", total as u64);
-    io::write_all(STDOUT_FILENO, b"\n");
+    put_number(&rt, b"sum ", total as u64);
+    put(&rt, b"\n");
 }

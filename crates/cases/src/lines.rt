@@ -2,32 +2,40 @@
 ghost use Rattle.std.specs.Prelude.{◌≡◌};
 ghost use Rattle.cases.specs.Sums.{next_sum, sum_on};
 
-use libc::STDOUT_FILENO;
+use std::io;
+use std::io::Write;
 use tasks::refusals::Refusal;
 
-pub fn put(text: &[u8]) {
-    io::write_all(STDOUT_FILENO, text);
+// A write that fails is passed over.
+pub fn put(rt: &impl Print, text: &[u8]) {
+    match io::writer(rt).write_all(text) {
+        Ok(()) => {}
+        Err(_) => {}
+    }
 }
 
-pub fn put_number(text: &[u8], n: u64) {
-    put(text);
-    io::print_decimal(STDOUT_FILENO, n);
+pub fn put_number(rt: &impl Print, text: &[u8], n: u64) {
+    put(rt, text);
+    match print!(rt; "{n}") {
+        Ok(()) => {}
+        Err(_) => {}
+    }
 }
 
-pub fn put_refusal(f: Refusal) {
-    put_number(b" refused ", f.number as u64);
-    put_number(b" place ", f.place as u64);
+pub fn put_refusal(rt: &impl Print, f: Refusal) {
+    put_number(rt, b" refused ", f.number as u64);
+    put_number(rt, b" place ", f.place as u64);
 }
 
-fn put_byte(b: u8) {
-    put_number(b" ", b as u64);
+fn put_byte(rt: &impl Print, b: u8) {
+    put_number(rt, b" ", b as u64);
 }
 
 // Every byte of a buffer.
-pub fn put_bytes(buf: &[u8]) {
+pub fn put_bytes(rt: &impl Print, buf: &[u8]) {
     let mut i = 0;
     while i < buf.len() {
-        put_byte(buf[i]);
+        put_byte(rt, buf[i]);
         i += 1;
     }
 }

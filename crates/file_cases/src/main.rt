@@ -11,44 +11,44 @@ use tasks::sets::Set;
 
 const PAIR_TABLE: [u8; 16] = [6, 5, 2, 5, 3, 1, 2, 1, 4, 4, 0, 4, 3, 1, 2, 1];
 
-fn put_written(w: Written) {
+fn put_written(rt: &impl Print, w: Written) {
     match w {
-        Written::Length(n) => put_number(b" length ", n as u64),
-        Written::Refused(f) => put_refusal(f),
+        Written::Length(n) => put_number(rt, b" length ", n as u64),
+        Written::Refused(f) => put_refusal(rt, f),
     }
 }
 
-fn put_opened(o: Opened) {
+fn put_opened(rt: &impl Print, o: Opened) {
     match o {
-        Opened::Opens => put(b" opens"),
-        Opened::Refused(f) => put_refusal(f),
+        Opened::Opens => put(rt, b" opens"),
+        Opened::Refused(f) => put_refusal(rt, f),
     }
 }
 
 // What the writer answers, and every byte of the file buffer.
-fn show_write(label: &[u8], s: Set, table: &[u8], file: &mut [u8]) {
-    put(b"write ");
-    put(label);
-    put(b":");
-    put_written(writer::write(s, table, file));
-    put(b" file");
-    put_bytes(file);
-    put(b"\n");
+fn show_write(rt: &impl Print, label: &[u8], s: Set, table: &[u8], file: &mut [u8]) {
+    put(rt, b"write ");
+    put(rt, label);
+    put(rt, b":");
+    put_written(rt, writer::write(s, table, file));
+    put(rt, b" file");
+    put_bytes(rt, file);
+    put(rt, b"\n");
 }
 
 // What the opener answers, and the part that it hands back.
-fn show_open(s: Set, file: &[u8]) {
-    put_opened(opener::verdict(s, file));
-    put(b" part");
-    put_bytes(opener::open(s, file));
-    put(b"\n");
+fn show_open(rt: &impl Print, s: Set, file: &[u8]) {
+    put_opened(rt, opener::verdict(s, file));
+    put(rt, b" part");
+    put_bytes(rt, opener::open(s, file));
+    put(rt, b"\n");
 }
 
-fn show_labelled(label: &[u8], s: Set, file: &[u8]) {
-    put(b"open ");
-    put(label);
-    put(b":");
-    show_open(s, file);
+fn show_labelled(rt: &impl Print, label: &[u8], s: Set, file: &[u8]) {
+    put(rt, b"open ");
+    put(rt, label);
+    put(rt, b":");
+    show_open(rt, s, file);
 }
 
 fn flip(b: u8) -> u8 {
@@ -56,34 +56,34 @@ fn flip(b: u8) -> u8 {
 }
 
 // Each byte in turn is changed, and put back.
-fn damage(s: Set, file: &mut [u8]) {
+fn damage(rt: &impl Print, s: Set, file: &mut [u8]) {
     let mut i = 0;
     while i < file.len() {
         let old = file[i];
         file[i] = flip(old);
-        put_number(b"byte ", i as u64);
-        put(b":");
-        show_open(s, file);
+        put_number(rt, b"byte ", i as u64);
+        put(rt, b":");
+        show_open(rt, s, file);
         file[i] = old;
         i += 1;
     }
 }
 
 // Each length from none to all.
-fn cut(s: Set, file: &[u8]) {
+fn cut(rt: &impl Print, s: Set, file: &[u8]) {
     let mut n = 0;
     while n < file.len() {
-        show_cut(s, file, n);
+        show_cut(rt, s, file, n);
         n += 1;
     }
-    show_cut(s, file, n);
+    show_cut(rt, s, file, n);
 }
 
-fn show_cut(s: Set, file: &[u8], n: usize) {
+fn show_cut(rt: &impl Print, s: Set, file: &[u8], n: usize) {
     if n <= file.len() {
-        put_number(b"first ", n as u64);
-        put(b":");
-        show_open(s, &file[0..n]);
+        put_number(rt, b"first ", n as u64);
+        put(rt, b":");
+        show_open(rt, s, &file[0..n]);
     }
 }
 
@@ -100,10 +100,11 @@ fn wide() -> Set {
 }
 
 // PAIR, whole and with bytes beyond the file and beyond the table.
-fn pair_written() {
-    show_write(b"PAIR", pair(), &PAIR_TABLE, &mut [170; 54]);
-    show_write(b"PAIR, 57 bytes", pair(), &PAIR_TABLE, &mut [170; 57]);
+fn pair_written(rt: &impl Print) {
+    show_write(rt, b"PAIR", pair(), &PAIR_TABLE, &mut [170; 54]);
+    show_write(rt, b"PAIR, 57 bytes", pair(), &PAIR_TABLE, &mut [170; 57]);
     show_write(
+        rt,
         b"PAIR, 18 entries",
         pair(),
         &[6, 5, 2, 5, 3, 1, 2, 1, 4, 4, 0, 4, 3, 1, 2, 1, 255, 255],
@@ -112,24 +113,33 @@ fn pair_written() {
 }
 
 // The refusals of the writer, in their order.
-fn refused_written() {
-    show_write(b"PAIR, every entry 1", pair(), &[1; 16], &mut [170; 54]);
-    show_write(b"PAIR, no bytes", pair(), &[1; 0], &mut [170; 0]);
-    show_write(b"PAIR, 15 and 53 bytes", pair(), &[1; 15], &mut [170; 53]);
+fn refused_written(rt: &impl Print) {
+    show_write(rt, b"PAIR, every entry 1", pair(), &[1; 16], &mut [170; 54]);
+    show_write(rt, b"PAIR, no bytes", pair(), &[1; 0], &mut [170; 0]);
     show_write(
+        rt,
+        b"PAIR, 15 and 53 bytes",
+        pair(),
+        &[1; 15],
+        &mut [170; 53],
+    );
+    show_write(
+        rt,
         b"PAIR, every entry 1, 53 bytes",
         pair(),
         &[1; 16],
         &mut [170; 53],
     );
-    show_write(b"PAIR, 53 bytes", pair(), &PAIR_TABLE, &mut [170; 53]);
+    show_write(rt, b"PAIR, 53 bytes", pair(), &PAIR_TABLE, &mut [170; 53]);
     show_write(
+        rt,
         b"hard 2 3 3, no bytes",
         named(*b"LATE\0\0\0\0\0\0\0\0\0\0\0\0", one(hard(2, V3, V3))),
         &[1; 0],
         &mut [170; 3],
     );
     show_write(
+        rt,
         b"no name",
         tight(*b"\0\0\0\0\0\0\0\0\0\0\0\0\0\0\0\0"),
         &[2, 1],
@@ -138,52 +148,58 @@ fn refused_written() {
 }
 
 // PAIR's file with each byte changed, and at each length to one more than its own.
-fn pair_damaged() {
+fn pair_damaged(rt: &impl Print) {
     let mut file = [170; 55];
     let _ = writer::write(pair(), &PAIR_TABLE, &mut file);
-    cut(pair(), &file);
+    cut(rt, pair(), &file);
     let mut whole = [170; 54];
     let _ = writer::write(pair(), &PAIR_TABLE, &mut whole);
-    damage(pair(), &mut whole);
+    damage(rt, pair(), &mut whole);
 }
 
 // The same for a name of 16 characters.
-fn tight_damaged() {
+fn tight_damaged(rt: &impl Print) {
     let name = *b"ABCDEFGHIJKLMNOP";
     let mut file = [170; 35];
     let _ = writer::write(tight(name), &[2, 1], &mut file);
-    cut(tight(name), &file);
+    cut(rt, tight(name), &file);
     let mut whole = [170; 34];
-    show_write(b"hard 1 1 1", tight(name), &[2, 1], &mut whole);
-    damage(tight(name), &mut whole);
-    others_open(name, &whole);
+    show_write(rt, b"hard 1 1 1", tight(name), &[2, 1], &mut whole);
+    damage(rt, tight(name), &mut whole);
+    others_open(rt, name, &whole);
 }
 
 // What other sets make of that file.
-fn others_open(name: [u8; 16], file: &[u8]) {
-    show_labelled(b"16th character", tight(*b"ABCDEFGHIJKLMNOQ"), file);
-    show_labelled(b"9th character", tight(*b"ABCDEFGHJJKLMNOP"), file);
-    show_labelled(b"a name of 8", tight(*b"ABCDEFGH\0\0\0\0\0\0\0\0"), file);
-    show_labelled(b"soft 1 1 1", named(name, one(soft(1, V1, V1))), file);
-    show_labelled(b"hard 1 1 2", named(name, one(hard(1, V1, V2))), file);
-    show_labelled(b"hard 1 1 16", named(name, one(hard(1, V1, V16))), file);
-    show_labelled(b"hard 2 2 2", named(name, one(hard(2, V2, V2))), file);
-    show_labelled(b"PAIR", pair(), file);
+fn others_open(rt: &impl Print, name: [u8; 16], file: &[u8]) {
+    show_labelled(rt, b"16th character", tight(*b"ABCDEFGHIJKLMNOQ"), file);
+    show_labelled(rt, b"9th character", tight(*b"ABCDEFGHJJKLMNOP"), file);
+    show_labelled(
+        rt,
+        b"a name of 8",
+        tight(*b"ABCDEFGH\0\0\0\0\0\0\0\0"),
+        file,
+    );
+    show_labelled(rt, b"soft 1 1 1", named(name, one(soft(1, V1, V1))), file);
+    show_labelled(rt, b"hard 1 1 2", named(name, one(hard(1, V1, V2))), file);
+    show_labelled(rt, b"hard 1 1 16", named(name, one(hard(1, V1, V16))), file);
+    show_labelled(rt, b"hard 2 2 2", named(name, one(hard(2, V2, V2))), file);
+    show_labelled(rt, b"PAIR", pair(), file);
 }
 
 // Both version bytes, the order of the refusals, and a bad set.
-fn refused_opened() {
+fn refused_opened(rt: &impl Print) {
     let mut file = [170; 55];
     let _ = writer::write(pair(), &PAIR_TABLE, &mut file);
     file[4] = 1;
-    show_labelled(b"version 257", pair(), &file);
+    show_labelled(rt, b"version 257", pair(), &file);
     file[3] = 0;
-    show_labelled(b"version 256", pair(), &file);
+    show_labelled(rt, b"version 256", pair(), &file);
     file[2] = 0;
-    show_labelled(b"mark and version", pair(), &file);
-    show_labelled(b"four bytes", pair(), b"SHT\x01");
-    show_labelled(b"five bytes", pair(), b"SHT\x01\0");
+    show_labelled(rt, b"mark and version", pair(), &file);
+    show_labelled(rt, b"four bytes", pair(), b"SHT\x01");
+    show_labelled(rt, b"five bytes", pair(), b"SHT\x01\0");
     show_labelled(
+        rt,
         b"hard 2 3 3, no bytes",
         named(*b"LATE\0\0\0\0\0\0\0\0\0\0\0\0", one(hard(2, V3, V3))),
         &[0; 0],
@@ -191,31 +207,31 @@ fn refused_opened() {
     let mut longer = [170; 55];
     let _ = writer::write(pair(), &PAIR_TABLE, &mut longer);
     longer[38] = 0;
-    show_labelled(b"a longer file, the start's entry 0", pair(), &longer);
+    show_labelled(rt, b"a longer file, the start's entry 0", pair(), &longer);
     longer[37] = 1;
-    show_labelled(b"the same, and the last byte of S", pair(), &longer);
+    show_labelled(rt, b"the same, and the last byte of S", pair(), &longer);
 }
 
 // The built tables of the example, and of a set with high bytes.
-fn built_cases() {
-    show_built(b"hard 2 1 3, soft 2 1,2 3", example(), &mut [170; 92]);
-    show_built(b"soft 16 1,16 16", wide(), &mut [170; 304]);
+fn built_cases(rt: &impl Print) {
+    show_built(rt, b"hard 2 1 3, soft 2 1,2 3", example(), &mut [170; 92]);
+    show_built(rt, b"soft 16 1,16 16", wide(), &mut [170; 304]);
 }
 
 // What is written of the built table, and what is opened of that.
-fn show_built(label: &[u8], s: Set, file: &mut [u8]) {
+fn show_built(rt: &impl Print, label: &[u8], s: Set, file: &mut [u8]) {
     let mut table = [7; 272];
     let mut work = [9; 272];
     let _ = builder::build(s, &mut table, &mut work);
-    show_write(label, s, &table, file);
-    show_labelled(label, s, file);
+    show_write(rt, label, s, &table, file);
+    show_labelled(rt, label, s, file);
 }
 
-fn main() {
-    pair_written();
-    refused_written();
-    pair_damaged();
-    tight_damaged();
-    refused_opened();
-    built_cases();
+fn main(rt: HostRuntime) {
+    pair_written(&rt);
+    refused_written(&rt);
+    pair_damaged(&rt);
+    tight_damaged(&rt);
+    refused_opened(&rt);
+    built_cases(&rt);
 }

@@ -12,179 +12,211 @@ fn midway() -> Run {
 }
 
 // 14 from the call that is out of turn says that the run fits; 21 from both, that it does not.
-fn tried(label: &[u8], r: Run) {
+fn tried(rt: &impl Print, label: &[u8], r: Run) {
     let s = sets::example();
-    show::ask(label, s, &[1; 54], r, 0);
-    show::report(label, s, r, 6, false, 0);
+    show::ask(rt, label, s, &[1; 54], r, 0);
+    show::report(rt, label, s, r, 6, false, 0);
 }
 
-fn first(label: &[u8], x: TaskState, n: Counts) {
-    tried(label, made::placed(midway(), 0, x, n));
+fn first(rt: &impl Print, label: &[u8], x: TaskState, n: Counts) {
+    tried(rt, label, made::placed(midway(), 0, x, n));
 }
 
-fn second(label: &[u8], x: TaskState, n: Counts) {
-    tried(label, made::placed(midway(), 1, x, n));
+fn second(rt: &impl Print, label: &[u8], x: TaskState, n: Counts) {
+    tried(rt, label, made::placed(midway(), 1, x, n));
 }
 
 // Ages and ticks given are in range.
-pub fn ages() {
+pub fn ages(rt: &impl Print) {
     let n = made::counts(4, 3, 0);
-    tried(b"midway", midway());
-    first(b"age 2, overdue", made::holds(2, 0), n);
-    first(b"age 3", made::holds(3, 0), n);
-    first(b"age 255", made::holds(255, 0), n);
-    first(b"age 3, no job", made::empty(3), made::counts(4, 4, 0));
+    tried(rt, b"midway", midway());
+    first(rt, b"age 2, overdue", made::holds(2, 0), n);
+    first(rt, b"age 3", made::holds(3, 0), n);
+    first(rt, b"age 255", made::holds(255, 0), n);
+    first(rt, b"age 3, no job", made::empty(3), made::counts(4, 4, 0));
 }
 
-pub fn given() {
+pub fn given(rt: &impl Print) {
     let n = made::counts(4, 3, 0);
     let m = made::counts(4, 1, 2);
-    first(b"given 1 of 1", made::holds(1, 1), n);
-    first(b"given 255", made::holds(1, 255), n);
-    second(b"given 1 at age 0", made::holds(0, 1), m);
-    second(b"given 2 of 2", made::holds(1, 2), m);
-    second(b"age 3 of the second", made::holds(3, 0), m);
+    first(rt, b"given 1 of 1", made::holds(1, 1), n);
+    first(rt, b"given 255", made::holds(1, 255), n);
+    second(rt, b"given 1 at age 0", made::holds(0, 1), m);
+    second(rt, b"given 2 of 2", made::holds(1, 2), m);
+    second(rt, b"age 3 of the second", made::holds(3, 0), m);
 }
 
 // An awaited choice is idle or runnable.
-pub fn choices() {
+pub fn choices(rt: &impl Print) {
     let r = midway();
-    tried(b"awaits 0", made::awaiting(r, 0));
-    tried(b"awaits 1", made::awaiting(r, 1));
-    tried(b"awaits 2", made::awaiting(r, 2));
-    tried(b"awaits 3", made::awaiting(r, 3));
-    tried(b"awaits 255", made::awaiting(r, 255));
+    tried(rt, b"awaits 0", made::awaiting(r, 0));
+    tried(rt, b"awaits 1", made::awaiting(r, 1));
+    tried(rt, b"awaits 2", made::awaiting(r, 2));
+    tried(rt, b"awaits 3", made::awaiting(r, 3));
+    tried(rt, b"awaits 255", made::awaiting(r, 255));
 }
 
-pub fn choices_not_runnable() {
+pub fn choices_not_runnable(rt: &impl Print) {
     let r = midway();
     let n = made::counts(4, 3, 0);
     let overdue = made::placed(r, 0, made::holds(2, 0), n);
     let none = made::placed(r, 0, made::empty(1), made::counts(4, 4, 0));
-    tried(b"awaits 1 at age 2", made::awaiting(overdue, 1));
-    tried(b"awaits 2 beside it", made::awaiting(overdue, 2));
-    tried(b"awaits 1 with no job", made::awaiting(none, 1));
-    tried(b"awaits 0 with no job", made::awaiting(none, 0));
+    tried(rt, b"awaits 1 at age 2", made::awaiting(overdue, 1));
+    tried(rt, b"awaits 2 beside it", made::awaiting(overdue, 2));
+    tried(rt, b"awaits 1 with no job", made::awaiting(none, 1));
+    tried(rt, b"awaits 0 with no job", made::awaiting(none, 0));
 }
 
 // The job sums hold, where no sum wraps; arrived is 1 to ticks + 1.
-pub fn sums_hard() {
-    first(b"arrived 5", made::holds(1, 0), made::counts(5, 3, 0));
-    first(b"arrived 3", made::holds(1, 0), made::counts(3, 3, 0));
+pub fn sums_hard(rt: &impl Print) {
+    first(rt, b"arrived 5", made::holds(1, 0), made::counts(5, 3, 0));
+    first(rt, b"arrived 3", made::holds(1, 0), made::counts(3, 3, 0));
     first(
+        rt,
         b"replaced 1 of a hard task",
         made::holds(1, 0),
         made::counts(5, 3, 1),
     );
-    first(b"no job, arrived 4", made::empty(1), made::counts(4, 3, 0));
-    first(b"no job, arrived 3", made::empty(1), made::counts(3, 3, 0));
+    first(
+        rt,
+        b"no job, arrived 4",
+        made::empty(1),
+        made::counts(4, 3, 0),
+    );
+    first(
+        rt,
+        b"no job, arrived 3",
+        made::empty(1),
+        made::counts(3, 3, 0),
+    );
 }
 
-pub fn sums_soft() {
+pub fn sums_soft(rt: &impl Print) {
     second(
+        rt,
         b"a wrapped sum",
         made::empty(1),
         made::counts(1, 4294967295, 2),
     );
     second(
+        rt,
         b"a wrapped sum with a job",
         made::holds(1, 0),
         made::counts(1, 4294967295, 1),
     );
-    second(b"arrived 0", made::empty(1), made::counts(0, 0, 0));
-    second(b"arrived 1", made::holds(1, 0), made::counts(1, 0, 0));
-    second(b"arrived 11", made::holds(1, 0), made::counts(11, 5, 5));
-    second(b"arrived 12", made::holds(1, 0), made::counts(12, 6, 5));
+    second(rt, b"arrived 0", made::empty(1), made::counts(0, 0, 0));
+    second(rt, b"arrived 1", made::holds(1, 0), made::counts(1, 0, 0));
+    second(rt, b"arrived 11", made::holds(1, 0), made::counts(11, 5, 5));
+    second(rt, b"arrived 12", made::holds(1, 0), made::counts(12, 6, 5));
 }
 
 // Ticks, substitutions, and nothing awaited at the last tick.
-pub fn ticks() {
+pub fn ticks(rt: &impl Print) {
     let r = midway();
-    tried(b"16777216 ticks", made::totalled(r, 16777216, 4));
-    tried(b"16777217 ticks", made::totalled(r, 16777217, 4));
-    tried(b"4294967295 ticks", made::totalled(r, 4294967295, 4));
+    tried(rt, b"16777216 ticks", made::totalled(r, 16777216, 4));
+    tried(rt, b"16777217 ticks", made::totalled(r, 16777217, 4));
+    tried(rt, b"4294967295 ticks", made::totalled(r, 4294967295, 4));
 }
 
-pub fn substitutions() {
+pub fn substitutions(rt: &impl Print) {
     let r = midway();
     let w = made::awaiting(r, 1);
-    tried(b"10 substitutions", made::totalled(r, 10, 10));
-    tried(b"11 substitutions", made::totalled(r, 10, 11));
+    tried(rt, b"10 substitutions", made::totalled(r, 10, 10));
+    tried(rt, b"11 substitutions", made::totalled(r, 10, 11));
     tried(
+        rt,
         b"4294967295 substitutions",
         made::totalled(r, 10, 4294967295),
     );
-    tried(b"11 substitutions, awaits 1", made::totalled(w, 10, 11));
-    tried(b"12 substitutions, awaits 1", made::totalled(w, 10, 12));
+    tried(rt, b"11 substitutions, awaits 1", made::totalled(w, 10, 11));
+    tried(rt, b"12 substitutions, awaits 1", made::totalled(w, 10, 12));
     tried(
+        rt,
         b"4294967295 substitutions, awaits 1",
         made::totalled(w, 10, 4294967295),
     );
 }
 
-pub fn last_ticks() {
+pub fn last_ticks(rt: &impl Print) {
     let r = midway();
     let w = made::awaiting(r, 1);
-    tried(b"16777215 ticks, awaits 1", made::totalled(w, 16777215, 4));
-    tried(b"16777216 ticks, awaits 1", made::totalled(w, 16777216, 4));
     tried(
+        rt,
+        b"16777215 ticks, awaits 1",
+        made::totalled(w, 16777215, 4),
+    );
+    tried(
+        rt,
+        b"16777216 ticks, awaits 1",
+        made::totalled(w, 16777216, 4),
+    );
+    tried(
+        rt,
         b"16777216 ticks and substitutions",
         made::totalled(r, 16777216, 16777216),
     );
     tried(
+        rt,
         b"16777215 ticks, all and one substituted",
         made::totalled(w, 16777215, 16777216),
     );
 }
 
-fn beyond(label: &[u8], k: usize) {
+fn beyond(rt: &impl Print, label: &[u8], k: usize) {
     let r = midway();
-    lines::put(label);
-    lines::put(b"\n");
+    lines::put(rt, label);
+    lines::put(rt, b"\n");
     tried(
+        rt,
         b"age 1",
         made::placed(r, k, made::empty(1), made::counts(0, 0, 0)),
     );
     tried(
+        rt,
         b"a job",
         made::placed(r, k, made::holds(0, 0), made::counts(0, 0, 0)),
     );
     tried(
+        rt,
         b"a fresh job",
         made::placed(r, k, made::holds(0, 0), made::counts(1, 0, 0)),
     );
     tried(
+        rt,
         b"arrived 1",
         made::placed(r, k, made::empty(0), made::counts(1, 0, 0)),
     );
     tried(
+        rt,
         b"finished 1",
         made::placed(r, k, made::empty(0), made::counts(0, 1, 0)),
     );
     tried(
+        rt,
         b"replaced 1",
         made::placed(r, k, made::empty(0), made::counts(0, 0, 1)),
     );
     tried(
+        rt,
         b"nothing",
         made::placed(r, k, made::empty(0), made::counts(0, 0, 0)),
     );
 }
 
 // Places beyond n are zero with no job.
-pub fn places() {
-    beyond(b"in place 3:", 2);
-    beyond(b"in place 7:", 6);
+pub fn places(rt: &impl Print) {
+    beyond(rt, b"in place 3:", 2);
+    beyond(rt, b"in place 7:", 6);
 }
 
 // The last tick: an ask at 16,777,215 ticks is taken, and its report; then an ask is 20 and a report 14.
-pub fn last_tick() {
+pub fn last_tick(rt: &impl Print) {
     let s = sets::example();
     let r = made::totalled(midway(), 16777215, 16777215);
-    let a = show::ask(b"at 16777215 ticks", s, &[1; 54], r, 1);
-    let b = show::report(b"at 16777215 ticks, refused", s, a, 6, false, 3);
+    let a = show::ask(rt, b"at 16777215 ticks", s, &[1; 54], r, 1);
+    let b = show::report(rt, b"at 16777215 ticks, refused", s, a, 6, false, 3);
     let c = made::placed(b, 0, made::empty(1), made::counts(4, 4, 0));
-    let d = show::report(b"at 16777215 ticks", s, c, 6, false, 0);
-    let e = show::ask(b"at 16777216 ticks", s, &[1; 54], d, 0);
-    show::report(b"at 16777216 ticks", s, e, 7, false, 0);
+    let d = show::report(rt, b"at 16777215 ticks", s, c, 6, false, 0);
+    let e = show::ask(rt, b"at 16777216 ticks", s, &[1; 54], d, 0);
+    show::report(rt, b"at 16777216 ticks", s, e, 7, false, 0);
 }

@@ -13,24 +13,24 @@ fn is_done(t: Taken) -> bool {
     }
 }
 
-fn asked(s: Set, table: &[u8], r: Run, proposal: u8) -> Run {
+fn asked(rt: &impl Print, s: Set, table: &[u8], r: Run, proposal: u8) -> Run {
     let a = asks::ask(s, table, r, proposal);
     let answer = a.answer;
-    lines::put_number(b" ask ", proposal as u64);
-    show::put_chosen(answer);
+    lines::put_number(rt, b" ask ", proposal as u64);
+    show::put_chosen(rt, answer);
     a.run
 }
 
 // The reports from one on, in a circle: finished in the ninth bit, the arrivals below it.
-fn reported(s: Set, r: Run, from: u16) -> Run {
-    let next = std::num::wrapping_add_u32(r.reading, 1);
+fn reported(rt: &impl Print, s: Set, r: Run, from: u16) -> Run {
+    let next = r.reading.wrapping_add(1);
     let mut j: u16 = 0;
     while j < 512 {
         let bits = (from % 512 + j) % 512;
         let a = reports::report(s, r, next, 256 <= bits, (bits % 256) as u8);
         let answer = a.answer;
         if is_done(answer) {
-            lines::put_number(b" report ", bits as u64);
+            lines::put_number(rt, b" report ", bits as u64);
             return a.run;
         }
         j += 1;
@@ -43,40 +43,45 @@ fn proposed(count: u8, i: u8) -> u8 {
     if count < 4 { i % 4 } else { i % 8 }
 }
 
-fn tick(s: Set, table: &[u8], r: Run, i: u8) -> Run {
-    let a = asked(s, table, r, proposed(s.count, i));
-    let b = reported(s, a, i as u16 * 37);
-    show::put_run(b);
+fn tick(rt: &impl Print, s: Set, table: &[u8], r: Run, i: u8) -> Run {
+    let a = asked(rt, s, table, r, proposed(s.count, i));
+    let b = reported(rt, s, a, i as u16 * 37);
+    show::put_run(rt, b);
     b
 }
 
-fn ticks(label: &[u8], s: Set, table: &[u8]) {
+fn ticks(rt: &impl Print, label: &[u8], s: Set, table: &[u8]) {
     let mut r = made::started(s, 4294967290);
     let mut i: u8 = 0;
     while i < 24 {
-        lines::put(b"tick of ");
-        lines::put(label);
-        lines::put(b":");
-        r = tick(s, table, r, i);
+        lines::put(rt, b"tick of ");
+        lines::put(rt, label);
+        lines::put(rt, b":");
+        r = tick(rt, s, table, r, i);
         i += 1;
     }
 }
 
-pub fn small() {
+pub fn small(rt: &impl Print) {
     let mut table = [7; 288];
     let mut work = [9; 288];
     let _ = builder::build(sets::pair(), &mut table, &mut work);
-    ticks(b"PAIR", sets::pair(), &table);
+    ticks(rt, b"PAIR", sets::pair(), &table);
     let _ = builder::build(sets::example(), &mut table, &mut work);
-    ticks(b"hard 2 1 3, soft 2 1,2 3", sets::example(), &table);
+    ticks(rt, b"hard 2 1 3, soft 2 1,2 3", sets::example(), &table);
     let _ = builder::build(made::ties(), &mut table, &mut work);
-    ticks(b"soft 3 1 3, soft 2 1 2, soft 2 1 4", made::ties(), &table);
+    ticks(
+        rt,
+        b"soft 3 1 3, soft 2 1 2, soft 2 1 4",
+        made::ties(),
+        &table,
+    );
     let _ = builder::build(made::many(), &mut table, &mut work);
-    ticks(b"seven of soft 1 1 1", made::many(), &table);
+    ticks(rt, b"seven of soft 1 1 1", made::many(), &table);
 }
 
 // 60,000 states.
-pub fn large() {
+pub fn large(rt: &impl Print) {
     let mut table = [7; 60000];
     let mut work = [9; 60000];
     let s = made::counted(
@@ -86,5 +91,5 @@ pub fn large() {
         sets::hard(5, sets::V1 + sets::V4, sets::V5),
     );
     let _ = builder::build(s, &mut table, &mut work);
-    ticks(b"soft 14 14 16, hard 1 1 5, hard 5 1,4 5", s, &table);
+    ticks(rt, b"soft 14 14 16, hard 1 1 5, hard 5 1,4 5", s, &table);
 }

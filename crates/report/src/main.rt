@@ -1,13 +1,14 @@
 // The report program: a sheet on standard input, the report on standard output.
 #![tactic(auto)]
 
-use libc::{STDIN_FILENO, STDOUT_FILENO};
 use reporter::Reported;
+use std::io;
+use std::io::Write;
 
-fn main() {
+fn main(rt: HostRuntime) {
     // A sheet has at most 1,024 bytes: one more is enough to see that it is too long.
     let mut sheet = [0u8; 1025];
-    let n = io::read_full(STDIN_FILENO, &mut sheet);
+    let n = reading::fill(&mut rt.stdin(), &mut sheet);
     let mut table = [0u8; 60000];
     let mut work = [0u8; 60000];
     let mut text = [0u8; reporter::ROOM];
@@ -15,5 +16,8 @@ fn main() {
     else {
         return;
     };
-    io::write_all(STDOUT_FILENO, &text[..length as usize]);
+    match io::writer(&rt).write_all(&text[..length as usize]) {
+        Ok(()) => {}
+        Err(_) => {}
+    }
 }
