@@ -1,0 +1,13 @@
+-- A line that is too long, or the rows of the page.
+use mathlib.Core.Path.{sym, ◌∙◌}
+use borrow.Author.Tests.{lt-ltb, le-ltb}
+use Rattle.commands.specs.Lines.{page, parse_of}
+use Rattle.commands.proofs.lines.parse.Goals as goal
+
+pub returns-then-line-gt-LONGEST : goal.returns-then-line-gt-LONGEST
+unfolding parse_of
+returns-then-line-gt-LONGEST c = simp (lt-ltb _ _ c.if-line-gt-LONGEST.true)
+
+pub returns : goal.returns
+unfolding parse_of page
+returns c = c.first_row.ensures ∙ sym (simp (le-ltb _ _ c.if-line-gt-LONGEST.false))
