@@ -1,7 +1,7 @@
 -- What the writer answers and leaves, case by case. Assumes nothing.
 use mathlib.Core.Path.{◌≡◌, refl, sym, ap, ap₂, subst, ◌∙◌}
 use mathlib.Core.List.{List, [], ◌++◌, append_assoc, append-nil}
-use Prim.Native.Nat.{ℕ, ◌-◌, ◌≤◌, ◌<◌}
+use Prim.Native.Nat.{ℕ, ◌+◌, ◌-◌, ◌≤◌, ◌<◌}
 use native.Mathlib.Nat.{le_of_eq}
 use native.Mathlib.Omega.{arith}
 use lib.ListN.{length, take, drop, length-drop}
@@ -24,20 +24,16 @@ pub refused_set : (s : Set) (t f : List ℕ) (g : Refusal) → test_set s ≡ Te
 refused_set s t f g e = record { answer = sym (ap (write_tested s t (length f)) e); file = refl }
 
 -- the entries of t, copied into the file from the header's end on
-pub stored : (s : Set) (t f f₁ p : List ℕ) (h n : ℕ) → length (header s) ≡ header_length s → h ≡ header_length s → n ≡ states_of s → n ≤ length t
-    → f₁ ≡ header s ++ drop (header_length s) f
-    → p ≡ take (length (take n t)) (take n t) ++ drop (length (take n t)) (take (length f₁ - h) (drop h f₁))
-    → put_mid h (length f₁ - h) f₁ p ≡ file_of s t ++ drop (file_length s) f
+pub stored : (s : Set) (t f f₁ p : List ℕ) (h n : ℕ) → length (header s) ≡ header_length s → h ≡ header_length s → n ≡ states_of s
+    → f₁ ≡ header s ++ drop (header_length s) f → p ≡ take n t
+    → put_mid h (h + n - h) f₁ p ≡ file_of s t ++ drop (file_length s) f
 unfolding file_of
-stored s t f f₁ p h n l a b ht u e =
-    let k = length-drop h f₁ in
+stored s t f f₁ p h n l a b u e =
     let rest : drop h f₁ ≡ drop (header_length s) f = ap₂ (λ (x : ℕ) (y : List ℕ). drop x y) a u ∙ drop_at (header s) _ (header_length s) l in
-    let part : take (length f₁ - h) (drop h f₁) ≡ drop (header_length s) f = take_all (length f₁ - h) (drop h f₁) (le_of_eq k) ∙ rest in
-    let none : drop (length f₁ - h) (drop h f₁) ≡ [] = ap (λ (x : ℕ). drop x (drop h f₁)) (sym k) ∙ drop-length (drop h f₁) in
+    let beyond : drop (h + n - h) (drop h f₁) ≡ drop (file_length s) f = ap₂ (λ (x : ℕ) (y : List ℕ). drop x y) (omega arith) rest ∙ drop-drop (states_of s) (header_length s) f in
     let head : take h f₁ ≡ header s = ap₂ (λ (x : ℕ) (y : List ℕ). take x y) a u ∙ take_at (header s) _ (header_length s) l in
-    let entries : p ≡ take (states_of s) t ++ drop (file_length s) f =
-    copied n t _ p ht e ∙ ap₂ (λ (x : ℕ) (y : List ℕ). take x t ++ drop x y) b part ∙ ap (λ (x : List ℕ). take (states_of s) t ++ x) (drop-drop (states_of s) (header_length s) f) in
-    ap₂ (λ (x y : List ℕ). x ++ y) head (ap₂ (λ (x y : List ℕ). x ++ y) entries none ∙ append-nil (take (states_of s) t ++ drop (file_length s) f))
+    let entries : p ≡ take (states_of s) t = e ∙ ap (λ (x : ℕ). take x t) b in
+    ap₂ (λ (x y : List ℕ). x ++ y) head (ap₂ (λ (x y : List ℕ). x ++ y) entries beyond)
     ∙ sym (append_assoc (header s) (take (states_of s) t) (drop (file_length s) f))
 
 module _ (s : Set) (p : Passed s) (t f : List ℕ) where

@@ -20,13 +20,13 @@ returns-then-work-size c = let q = c.short-then-work-size.ensures ∙ ap too_sho
 
 pub bounds-table-0 : goal.bounds-table-0
 bounds-table-0 c =
-    omega (arith, c.run_rounds-settled.auto.1.0, c.if-table-size.false, c.requires.1, states_pos c.args.s (passed_valid c.args.s c.requires.0) c.args.s.count (omega arith))
+    omega (arith, c.run_rounds-settled.auto.table, c.if-table-size.false, c.requires.1, states_pos c.args.s (passed_valid c.args.s c.requires.0) c.args.s.count (omega arith))
 
 pub returns-in-Safe : goal.returns-in-Safe
 returns-in-Safe c =
-    built_safe c.args.s c.requires.0 c.args.table.now c.args.work.now c.args.n c.requires.1 c.if-table-size.false c.if-work-size.false c.run_rounds-settled.result c.run_rounds-settled.new.1.0 c.run_rounds-settled.new.1.1.0 c.run_rounds-settled.ensures _ _ c.fill.new.0 c.in-Safe.is c.fill.ensures
+    built_safe c.args.s c.requires.0 c.args.table.now c.args.work.now c.args.n c.requires.1 c.if-table-size.false c.if-work-size.false c.run_rounds-settled.result c.run_rounds-settled.new.table c.run_rounds-settled.new.work c.run_rounds-settled.ensures _ _ c.fill.new.buf c.in-Safe.is c.fill.ensures
 
 pub returns-in-Falls : goal.returns-in-Falls
 returns-in-Falls c =
     let z = c.fill-in-Falls in
-    built_falls c.args.s c.requires.0 c.args.table.now c.args.work.now c.args.n c.requires.1 c.if-table-size.false c.if-work-size.false c.run_rounds-settled.result c.run_rounds-settled.new.1.0 c.run_rounds-settled.new.1.1.0 c.run_rounds-settled.ensures _ z.new.0 c.fill.new.0 c.in-Falls.is z.ensures c.fill.ensures
+    built_falls c.args.s c.requires.0 c.args.table.now c.args.work.now c.args.n c.requires.1 c.if-table-size.false c.if-work-size.false c.run_rounds-settled.result c.run_rounds-settled.new.table c.run_rounds-settled.new.work c.run_rounds-settled.ensures _ z.new.buf c.fill.new.buf c.in-Falls.is z.ensures c.fill.ensures

@@ -22,6 +22,13 @@ use Rattle.shield.specs.Shield.{table_after}
 use Rattle.shield.proofs.RoundLaws.{first_table, first_count, count_left, count_down, same_count, fewer_left, start_lost, start_left, settled_falls, settled_safe, drop_after, round_after}
 use Rattle.shield.proofs.builder.run_rounds.Given as goal
 
+pub record Kept (s : Set) (t w : List ℕ) (n : ℕ) (t' w' : List ℕ) (k r : ℕ) : Type 0 where
+  pub table : t' ≡ table_after s r ++ drop n t
+  pub beyond : drop n w' ≡ drop n w
+  pub rounds : r ≤ Arena.R (arena_of s)
+  pub left : k ≡ count n (Arena.left (arena_of s) r)
+  pub start : T (Arena.left (arena_of s) r 0)
+
 abbrev pub invariant-loop-table : goal.invariant-loop-table
 invariant-loop-table l = Kept l.s l.initial.table l.initial.work l.n l.table l.work l.left l.rounds
 

@@ -13,4 +13,4 @@ returns-then-entry-eq0 c = sym (faulty_zero _ _ _ c.if-entry-eq0.true)
 
 pub returns : goal.returns
 returns c = let a = c.args in
-    sym (faulty_other a.s a.table.now a.i c.if-entry-eq0.false (omega (arith, c.shared_slice_known-2-1.given a.i)) ∙ ap (λ n. not (eqb n (entry_at a.table.now a.i))) (sym c.next_entry.ensures))
+    sym (faulty_other a.s a.table.now a.i c.if-entry-eq0.false (omega (arith, c.type_inv.table a.i)) ∙ ap (λ n. not (eqb n (entry_at a.table.now a.i))) (sym c.next_entry.ensures))

@@ -14,7 +14,11 @@ returns-then-not-is_legal c = simp (sym c.is_legal.ensures ∙ c.if-not-is_legal
 
 pub walk_on-requires : goal.walk_on-requires
 walk_on-requires c = let l = sym c.is_legal.ensures ∙ c.if-not-is_legal.false in
-    let w = ((c.requires.passed.0, omega arith, omega (arith, c.requires.passed.1)), (c.requires.by_index, λ j h. legal_hand c.args.s c.args.d.now c.args.choice (subst T (sym l) tt) j)) in record { passed = w.0; by_index = w.1; by_index_2 = w.2 }
+    record {
+      passed = (c.requires.passed.0, omega arith, omega (arith, c.requires.passed.1));
+      by_index = c.requires.by_index;
+      by_index_2 = λ j h. legal_hand c.args.s c.args.d.now c.args.choice (subst T (sym l) tt) j;
+    }
 
 pub returns : goal.returns
 unfolding fine_in

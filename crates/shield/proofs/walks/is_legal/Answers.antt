@@ -16,7 +16,7 @@ returns-then-choice-eq0 c = sym (ap (legal_in c.args.s c.args.d.now) c.if-choice
 
 pub returns-then-s-choice : goal.returns-then-s-choice
 unfolding legal_in
-returns-then-s-choice c = sym (legal_none _ _ _ c.if-s-choice.true)
+returns-then-s-choice c = sym (legal_none c.args.s _ c.args.choice c.if-s-choice.true)
 
 pub bounds-s-choice : goal.bounds-s-choice
 bounds-s-choice c = omega (arith, (passed_valid c.args.s c.requires.passed).count.1)

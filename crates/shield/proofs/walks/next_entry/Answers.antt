@@ -14,6 +14,7 @@ use Rattle.shield.specs.Shield.{fine_in, next_entry}
 use Rattle.shield.proofs.EntryLaws.{marks_cong}
 use Rattle.shield.proofs.FineLaws.{fine_at, marks_on, marks_off, marks_room, next_none}
 use Rattle.shield.proofs.walks.next_entry.Goals as goal
+use Rattle.shield.proofs.walks.next_entry.Goals.{then-still_fine, else-still_fine}
 
 -- what is asked of each choice
 abbrev still : Set → List ℕ → List ℕ → ℕ → ℕ → Bool
@@ -39,7 +40,7 @@ loop-choice-preserved c =
     let l = c.loop-choice in
     let f = still c.args.s c.locals_at-d.result c.args.table.now c.args.i in
     let e = c.still_fine.ensures in
-    (omega arith, ⊎_elim (λ w. w.2 ∙ ap₂ (λ x y. x + y) l.invariant.1 w.1.ensures ∙ marks_on l.choice f (sym e ∙ w.0.taken)) (λ w. w.1 ∙ l.invariant.1 ∙ marks_off l.choice f (sym e ∙ w.0.left)) c.if-still_fine.branch)
+    (omega arith, elim c.if-still_fine.branch [ then-still_fine w ↦ w.entry-is ∙ ap₂ (λ x y. x + y) l.invariant.1 w.only-entry.ensures ∙ marks_on l.choice f (sym e ∙ w.if-still_fine.true) | else-still_fine w ↦ w.entry-is ∙ l.invariant.1 ∙ marks_off l.choice f (sym e ∙ w.if-still_fine.false) ])
 
 pub returns : goal.returns
 unfolding next_entry
