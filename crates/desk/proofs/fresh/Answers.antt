@@ -1,0 +1,6 @@
+-- Nothing in it.
+use borrow.Author.Rules.{rules}
+use Rattle.desk.proofs.fresh.Goals as goal
+
+pub returns : goal.returns
+returns c = rw (c.no_set-set.ensures, c.fresh_run-run.ensures)

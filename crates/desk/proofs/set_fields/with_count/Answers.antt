@@ -1,0 +1,6 @@
+-- The count.
+use borrow.Author.Rules.{rules}
+use Rattle.desk.proofs.set_fields.with_count.Goals as goal
+
+pub returns : goal.returns
+returns c = rw c.byte.ensures
