@@ -3,7 +3,6 @@ use Rattle.std.specs.Prelude.{ℕ, zero, suc, ◌+◌, ◌-◌, Bool, true, cond
 use Rattle.arena.specs.Tests.{all_below, imp}
 use Rattle.tasks.specs.declared.sets.Set.{Set}
 use Rattle.tasks.specs.declared.sets.Tested.{Tested}
-use Rattle.tasks.specs.declared.sets.Tested.TheVariants as Tested
 use Rattle.tasks.specs.Refusals.{Said, answered, refusing, buffer_too_short, state_does_not_fit, out_of_turn, ticks_used_up, proposal_above_count, bad_entry}
 use Rattle.tasks.specs.Sets.{task_at, test_set}
 use Rattle.game.specs.declared.states.TaskState.{TaskState}

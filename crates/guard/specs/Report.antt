@@ -3,7 +3,6 @@ use Rattle.std.specs.Prelude.{ℕ, zero, suc, ◌+◌, ◌/◌, ◌%◌, ◌^◌
 use Rattle.arena.specs.Tests.{first, one}
 use Rattle.tasks.specs.declared.sets.Set.{Set}
 use Rattle.tasks.specs.declared.sets.Tested.{Tested}
-use Rattle.tasks.specs.declared.sets.Tested.TheVariants as Tested
 use Rattle.tasks.specs.Refusals.{state_does_not_fit, out_of_turn, wrong_reading, impossible_outcome, hard_miss}
 use Rattle.tasks.specs.Sets.{task_at, test_set}
 use Rattle.game.specs.declared.states.TaskState.{TaskState}

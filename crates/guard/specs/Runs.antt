@@ -4,7 +4,6 @@ use Rattle.arena.specs.Tests.{all_below, one}
 use Rattle.tasks.specs.declared.sets.Task.{Task}
 use Rattle.tasks.specs.declared.sets.Set.{Set}
 use Rattle.tasks.specs.declared.sets.Tested.{Tested}
-use Rattle.tasks.specs.declared.sets.Tested.TheVariants as Tested
 use Rattle.tasks.specs.Refusals.{Said, answered, refusing}
 use Rattle.tasks.specs.Sets.{within, task_at, test_set}
 use Rattle.game.specs.declared.states.Job.TheVariants.{InHand}

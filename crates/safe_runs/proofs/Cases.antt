@@ -10,7 +10,6 @@ use Rattle.arena.proofs.Tests.{by_cond, nor, not_not, T_false, first_least}
 use Rattle.tasks.specs.declared.refusals.Refusal.{Refusal}
 use Rattle.tasks.specs.declared.sets.Set.{Set}
 use Rattle.tasks.specs.declared.sets.Tested.{Tested}
-use Rattle.tasks.specs.declared.sets.Tested.TheVariants as Tested
 use Rattle.tasks.specs.Refusals.{buffer_too_short, state_does_not_fit, out_of_turn, ticks_used_up, proposal_above_count, bad_entry, wrong_reading, impossible_outcome, hard_miss}
 use Rattle.tasks.specs.Sets.{test_set, Passed}
 use Rattle.tasks.proofs.Valid.{passed}
@@ -18,7 +17,6 @@ use Rattle.game.specs.declared.states.TaskState.{TaskState}
 use Rattle.game.specs.States.{index_of}
 use Rattle.shield.specs.Entries.{entry_at}
 use Rattle.guard.specs.declared.runs.Awaited.{Awaited}
-use Rattle.guard.specs.declared.runs.Awaited.TheVariants as Awaited
 use Rattle.guard.specs.declared.runs.Run.{Run}
 use Rattle.guard.specs.declared.runs.Taken.TheVariants as Taken
 use Rattle.guard.specs.declared.asks.Asked.{Asked}

@@ -18,7 +18,6 @@ use Rattle.game.specs.declared.states.TaskState.{TaskState}
 use Rattle.game.specs.States.{in_range, no_state, state_at}
 use Rattle.guard.specs.declared.runs.Counts.{Counts}
 use Rattle.guard.specs.declared.runs.Awaited.{Awaited}
-use Rattle.guard.specs.declared.runs.Awaited.TheVariants as Awaited
 use Rattle.guard.specs.declared.runs.Run.{Run}
 use Rattle.guard.specs.declared.reports.Outcome.{Outcome}
 use Rattle.guard.specs.Runs.{tick_limit, seven, fresh_state, fresh_counts, no_counts, counts_at, start_run, start_of, start_tested, place_empty, legal_for, awaited_fits, awaits}

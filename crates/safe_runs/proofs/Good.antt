@@ -24,7 +24,6 @@ use Rattle.shield.specs.Test.{faulty}
 use Rattle.shield.proofs.Tested.{Tried}
 use Rattle.guard.specs.declared.runs.Awaited.TheVariants as Awaited
 use Rattle.guard.specs.declared.runs.Run.{Run}
-use Rattle.guard.specs.declared.asks.Chosen.TheVariants.{Choice}
 use Rattle.guard.specs.declared.reports.Outcome.{Outcome}
 use Rattle.guard.specs.Runs.{seven, fresh_state, start_state, start_run, legal_for, fits, said_taken}
 use Rattle.guard.specs.Ask.{serves, choice_for, ask_given, ask_of, said_chosen}

@@ -9,7 +9,6 @@ use lib.ListN.{get_or}
 use Rattle.arena.specs.Tests.{one}
 use Rattle.tasks.specs.declared.sets.Set.{Set}
 use Rattle.tasks.specs.declared.sets.Tested.{Tested}
-use Rattle.tasks.specs.declared.sets.Tested.TheVariants as Tested
 use Rattle.tasks.specs.Refusals.{answered, refusing, state_does_not_fit}
 use Rattle.tasks.specs.Sets.{states_of, test_set, Passed}
 use Rattle.tasks.proofs.Valid.{refused_number}

@@ -21,7 +21,6 @@ use Rattle.game.specs.Game.{Seen, arena_of}
 use Rattle.game.proofs.StateLaws.{state_index}
 use Rattle.shield.proofs.EntryLaws.{marks_lt}
 use Rattle.guard.specs.declared.runs.Awaited.{Awaited}
-use Rattle.guard.specs.declared.runs.Awaited.TheVariants as Awaited
 use Rattle.guard.specs.declared.runs.Run.{Run}
 use Rattle.guard.specs.declared.reports.Outcome.{Outcome}
 use Rattle.guard.specs.declared.reports.Reported.{Reported}

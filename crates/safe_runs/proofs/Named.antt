@@ -15,7 +15,6 @@ use Rattle.tasks.specs.declared.sets.Set.{Set}
 use Rattle.tasks.specs.Sets.{task_at, states_to}
 use Rattle.game.specs.declared.states.TaskState.{TaskState}
 use Rattle.game.specs.declared.ticks.Ticked.{Ticked}
-use Rattle.game.specs.declared.ticks.Ticked.TheVariants as Ticked
 use Rattle.game.specs.States.{local_of, state_at, index_to, task_state_at}
 use Rattle.game.specs.Ticks.{can, tick_of}
 use Rattle.game.specs.Game.{gather, flags, moves_of, beside, outcomes_to}

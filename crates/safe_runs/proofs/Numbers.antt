@@ -8,16 +8,13 @@ use Rattle.arena.specs.Tests.{◌∈◌}
 use Rattle.tasks.specs.declared.refusals.Refusal.{Refusal}
 use Rattle.tasks.specs.declared.sets.Set.{Set}
 use Rattle.tasks.specs.declared.sets.Tested.{Tested}
-use Rattle.tasks.specs.declared.sets.Tested.TheVariants as Tested
 use Rattle.tasks.specs.Refusals.{set_numbers, ask_numbers, report_numbers}
 use Rattle.tasks.specs.Sets.{test_set}
 use Rattle.tasks.proofs.Numbers.{listed_in}
 use Rattle.tasks.proofs.Valid.{refused_listed}
 use Rattle.guard.specs.declared.runs.Run.{Run}
 use Rattle.guard.specs.declared.runs.Taken.{Taken}
-use Rattle.guard.specs.declared.runs.Taken.TheVariants as Taken
 use Rattle.guard.specs.declared.asks.Chosen.{Chosen}
-use Rattle.guard.specs.declared.asks.Chosen.TheVariants as Chosen
 use Rattle.guard.specs.Runs.{start_tested, start_of, said_taken}
 use Rattle.guard.specs.Ask.{ask_given, ask_of, said_chosen}
 use Rattle.guard.specs.Report.{report_of}

@@ -22,7 +22,6 @@ use Rattle.game.specs.declared.states.TaskState.{TaskState}
 use Rattle.game.specs.States.{state_at, task_state_at}
 use Rattle.game.specs.declared.ticks.Flags.{Flags}
 use Rattle.game.specs.declared.ticks.Ticked.{Ticked}
-use Rattle.game.specs.declared.ticks.Ticked.TheVariants.{Next}
 use Rattle.game.specs.Ticks.{flagged, can_finish, can, tick_of}
 use Rattle.game.specs.Game.{Seen, flags, moves_of, beside, outcomes_to}
 use Rattle.game.proofs.ListTests.{those_at, map_at, gather_at}

@@ -9,7 +9,6 @@ use Rattle.tasks.specs.Refusals.{answered}
 use Rattle.table_file.specs.declared.writer.Written.{Written}
 use Rattle.table_file.specs.declared.writer.Written.TheVariants.{Length, Refused}
 use Rattle.table_file.specs.declared.opener.Opened.{Opened}
-use Rattle.table_file.specs.declared.opener.Opened.TheVariants as Opened
 use Rattle.table_file.specs.Files.{file_of, file_length}
 use Rattle.table_file.specs.Write.{file_written, Writes, said_written}
 use Rattle.table_file.specs.Open.{open_of, part_of, handed, said_opened}

@@ -12,20 +12,16 @@ use Rattle.arena.proofs.Tests.{not_not, by_cond}
 use Rattle.tasks.specs.declared.refusals.Refusal.{Refusal}
 use Rattle.tasks.specs.declared.sets.Set.{Set}
 use Rattle.tasks.specs.declared.sets.Tested.{Tested}
-use Rattle.tasks.specs.declared.sets.Tested.TheVariants as Tested
 use Rattle.tasks.specs.Refusals.{test_numbers, open_numbers}
 use Rattle.tasks.specs.Sets.{states_of, test_set, Passed}
 use Rattle.tasks.proofs.Numbers.{listed_in}
 use Rattle.tasks.proofs.Valid.{passed, refused_listed}
 use Rattle.shield.specs.declared.tester.Verdict.{Verdict}
-use Rattle.shield.specs.declared.tester.Verdict.TheVariants as Verdict
 use Rattle.shield.specs.Test.{first_fault, test_of}
 use Rattle.shield.proofs.Numbers.{test_number}
 use Rattle.shield.proofs.Tested.{test_long}
 use Rattle.table_file.specs.declared.writer.Written.{Written}
-use Rattle.table_file.specs.declared.writer.Written.TheVariants as Written
 use Rattle.table_file.specs.declared.opener.Opened.{Opened}
-use Rattle.table_file.specs.declared.opener.Opened.TheVariants as Opened
 use Rattle.table_file.specs.Files.{header_length, file_length}
 use Rattle.table_file.specs.Write.{write_verdict, write_tested, write_of, said_written}
 use Rattle.table_file.specs.Open.{other, present, open_verdict, open_passed, open_tested, open_of, said_opened}

@@ -13,14 +13,12 @@ use Rattle.arena.proofs.Tests.{nor, not_not, lt_or_le, first_least, first_none, 
 use Rattle.tasks.specs.declared.refusals.Refusal.{Refusal}
 use Rattle.tasks.specs.declared.sets.Set.{Set}
 use Rattle.tasks.specs.declared.sets.Tested.{Tested}
-use Rattle.tasks.specs.declared.sets.Tested.TheVariants as Tested
 use Rattle.tasks.specs.Refusals.{open_numbers}
 use Rattle.tasks.specs.Sets.{test_set, Passed}
 use Rattle.tasks.proofs.Numbers.{between}
 use Rattle.tasks.proofs.Valid.{passed}
 use Rattle.shield.specs.declared.tester.Verdict.{Verdict}
 use Rattle.shield.specs.declared.tester.Verdict.TheVariants.{Passes}
-use Rattle.shield.specs.declared.tester.Verdict.TheVariants as Verdict
 use Rattle.shield.specs.Test.{test_of}
 use Rattle.table_file.specs.declared.opener.Opened.{Opened}
 use Rattle.table_file.specs.declared.opener.Opened.TheVariants.{Opens, Refused}

@@ -11,18 +11,15 @@ use lib.Seq.{length-take-le, take_all, take_at, drop_at, get_or-take, ext_get_or
 use Rattle.tasks.specs.declared.refusals.Refusal.{Refusal}
 use Rattle.tasks.specs.declared.sets.Set.{Set}
 use Rattle.tasks.specs.declared.sets.Tested.{Tested}
-use Rattle.tasks.specs.declared.sets.Tested.TheVariants as Tested
 use Rattle.tasks.specs.Refusals.{answered}
 use Rattle.tasks.specs.Sets.{states_of, test_set, Passed}
 use Rattle.tasks.proofs.Valid.{valid, passed, refused_number}
 use Rattle.shield.specs.declared.tester.Verdict.TheVariants.{Passes}
 use Rattle.shield.specs.declared.tester.Verdict.{Verdict}
-use Rattle.shield.specs.declared.tester.Verdict.TheVariants as Verdict
 use Rattle.shield.specs.Test.{test_of, said_verdict}
 use Rattle.shield.proofs.Tested.{entries_test, refused_said}
 use Rattle.table_file.specs.declared.writer.Written.{Written}
 use Rattle.table_file.specs.declared.writer.Written.TheVariants.{Length}
-use Rattle.table_file.specs.declared.writer.Written.TheVariants as Written
 use Rattle.table_file.specs.declared.opener.Opened.TheVariants as Opened
 use Rattle.table_file.specs.Files.{header, header_length, file_of, file_length}
 use Rattle.table_file.specs.Write.{write_verdict, write_tested, write_of, file_written, Writes, said_written}

@@ -1,11 +1,10 @@
 -- What the writer answers and leaves, case by case. Assumes nothing.
 use mathlib.Core.Path.{◌≡◌, refl, sym, ap, ap₂, subst, ◌∙◌}
-use mathlib.Core.List.{List, [], ◌++◌, append_assoc, append-nil}
+use mathlib.Core.List.{List, ◌++◌, append_assoc}
 use Prim.Native.Nat.{ℕ, ◌+◌, ◌-◌, ◌≤◌, ◌<◌}
-use native.Mathlib.Nat.{le_of_eq}
 use native.Mathlib.Omega.{arith}
-use lib.ListN.{length, take, drop, length-drop}
-use lib.Seq.{take_at, take_all, drop_at, drop-drop, drop-length}
+use lib.ListN.{length, take, drop}
+use lib.Seq.{take_at, drop_at, drop-drop}
 use borrow.Rule.Slice.PartMut.{put_mid}
 use borrow.Author.Tests.{lt-ltb, le-ltb}
 use Rattle.tasks.specs.declared.refusals.Refusal.{Refusal}
@@ -14,7 +13,6 @@ use Rattle.tasks.specs.declared.sets.Tested.TheVariants as Tested
 use Rattle.tasks.specs.Sets.{states_of, test_set, Passed}
 use Rattle.shield.specs.declared.tester.Verdict.TheVariants as Verdict
 use Rattle.shield.specs.Test.{test_of}
-use Rattle.shield.proofs.EntryLaws.{copied}
 use Rattle.table_file.specs.declared.writer.Written.{Written}
 use Rattle.table_file.specs.declared.writer.Written.TheVariants.{Length, Refused}
 use Rattle.table_file.specs.Files.{header, header_length, file_of, file_length}

@@ -3,11 +3,9 @@ use Rattle.std.specs.Prelude.{Bool, not, ◌||◌, cond, List, [], ℕ, ◌-◌,
 use Rattle.arena.specs.Tests.{first}
 use Rattle.tasks.specs.declared.sets.Set.{Set}
 use Rattle.tasks.specs.declared.sets.Tested.{Tested}
-use Rattle.tasks.specs.declared.sets.Tested.TheVariants as Tested
 use Rattle.tasks.specs.Refusals.{Said, answered, refusing, wrong_mark, wrong_version, wrong_length, header_differs}
 use Rattle.tasks.specs.Sets.{test_set}
 use Rattle.shield.specs.declared.tester.Verdict.{Verdict}
-use Rattle.shield.specs.declared.tester.Verdict.TheVariants as Verdict
 use Rattle.shield.specs.Test.{test_of}
 use Rattle.table_file.specs.declared.opener.Opened.{Opened}
 use Rattle.table_file.specs.declared.opener.Opened.TheVariants.{Opens, Refused}

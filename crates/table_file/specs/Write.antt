@@ -2,11 +2,9 @@
 use Rattle.std.specs.Prelude.{cond, List, [], ◌∷◌, ◌++◌, ◌≡◌, ℕ, ltb, length, drop}
 use Rattle.tasks.specs.declared.sets.Set.{Set}
 use Rattle.tasks.specs.declared.sets.Tested.{Tested}
-use Rattle.tasks.specs.declared.sets.Tested.TheVariants as Tested
 use Rattle.tasks.specs.Refusals.{Said, answered, refusing, short}
 use Rattle.tasks.specs.Sets.{test_set}
 use Rattle.shield.specs.declared.tester.Verdict.{Verdict}
-use Rattle.shield.specs.declared.tester.Verdict.TheVariants as Verdict
 use Rattle.shield.specs.Test.{test_of}
 use Rattle.table_file.specs.declared.writer.Written.{Written}
 use Rattle.table_file.specs.declared.writer.Written.TheVariants.{Length, Refused}

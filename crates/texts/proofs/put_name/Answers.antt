@@ -3,7 +3,6 @@ use mathlib.Core.Path.{ap}
 use Prim.Native.Nat.{◌≤◌}
 use native.Mathlib.Omega.{arith}
 use lib.ListN.{length, take, length-take}
-use borrow.Author.Rules.{rules}
 use Rattle.tasks.proofs.SetLaws.{characters_le}
 use Rattle.texts.proofs.PutLaws.{puts_as}
 use Rattle.texts.proofs.put_name.Goals as goal

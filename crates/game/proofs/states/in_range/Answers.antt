@@ -2,7 +2,6 @@
 use mathlib.Core.Path.{sym}
 use borrow.Author.Tests.{lt-ltb, le-ltb}
 use Rattle.game.specs.States.{in_range}
-use borrow.Author.Rules.{rules}
 use Rattle.game.proofs.states.in_range.Goals as goal
 
 pub returns-then-longest-x : goal.returns-then-longest-x

@@ -1,7 +1,6 @@
 -- The index of the first k tasks' states.
-use borrow.Author.Rules.{rules}
 use mathlib.Core.Path.{◌≡◌, refl, ap, ◌∙◌}
-use Prim.Native.Nat.{◌+◌, ◌-◌, ◌*◌, ◌^◌, ◌≤◌, ◌<◌}
+use Prim.Native.Nat.{◌+◌, ◌*◌, ◌^◌, ◌<◌}
 use native.Mathlib.Omega.{arith}
 use Rattle.tasks.specs.Sets.{states_to}
 use Rattle.tasks.proofs.SetLaws.{states_step, bound_step, bound_top}

@@ -1,13 +1,8 @@
 -- The index of the first k tasks' states.
-use borrow.Author.Rules.{rules}
-use mathlib.Core.Path.{◌≡◌, refl, ap, ◌∙◌}
-use Prim.Native.Nat.{◌+◌, ◌-◌, ◌*◌, ◌^◌, ◌≤◌, ◌<◌}
-use native.Mathlib.Omega.{arith}
+use mathlib.Core.Path.{◌≡◌}
+use Prim.Native.Nat.{◌-◌, ◌*◌, ◌^◌, ◌≤◌}
 use Rattle.tasks.specs.Sets.{states_to}
-use Rattle.tasks.proofs.SetLaws.{states_step, bound_step, bound_top}
-use Rattle.tasks.proofs.Valid.{passed_valid}
 use Rattle.game.specs.States.{index_to}
-use Rattle.game.proofs.StateLaws.{index_step, index_bound, index_top}
 use Rattle.game.proofs.states.index_of.Given as goal
 
 abbrev pub invariant-loop-k : goal.invariant-loop-k

@@ -4,7 +4,6 @@ use native.Mathlib.Omega.{arith}
 use Rattle.tasks.proofs.ListLaws.{longest_le}
 use Rattle.game.specs.States.{local_of}
 use Rattle.game.proofs.StateLaws.{local_small}
-use borrow.Author.Rules.{rules}
 use Rattle.game.proofs.states.local_number.Goals as goal
 use Rattle.game.proofs.states.local_number.Goals.{After-longest}
 

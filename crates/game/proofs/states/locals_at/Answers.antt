@@ -1,16 +1,13 @@
 -- The local numbers of the first k tasks, and the index of those left.
-use borrow.Author.Rules.{rules}
 use borrow.Author.Count.{below_none}
-use mathlib.Core.Path.{◌≡◌, refl, sym, ◌∙◌}
-use Prim.Native.Nat.{ℕ, ◌-◌, ◌/◌, ◌≤◌, ◌<◌}
+use mathlib.Core.Path.{refl, sym, ◌∙◌}
+use Prim.Native.Nat.{◌<◌}
 use native.Mathlib.Nat.{div-one, mod-lt, le_trans}
 use native.Mathlib.Omega.{arith}
-use lib.ListN.{length, get_or, length-set, get_or-replicate}
+use lib.ListN.{length, length-set, get_or-replicate}
 use lib.Seq.{get_or-set_other}
 use Rattle.tasks.specs.Sets.{states_to}
-use Rattle.tasks.specs.Valid.{Valid}
 use Rattle.tasks.proofs.Valid.{passed_valid}
-use Rattle.game.specs.States.{local_at}
 use Rattle.game.proofs.StateLaws.{locals_pos, rest_step, locals_step}
 use Rattle.game.proofs.states.locals_at.Goals as goal
 use Rattle.game.proofs.states.locals_at.Goals.{After-locals-n}

@@ -1,17 +1,10 @@
 -- The local numbers of the first k tasks, and the index of those left.
-use borrow.Author.Rules.{rules}
-use borrow.Author.Count.{below_none}
-use mathlib.Core.Path.{◌≡◌, refl, sym, ◌∙◌}
+use mathlib.Core.Path.{◌≡◌}
 use Prim.Native.Nat.{ℕ, ◌-◌, ◌/◌, ◌≤◌, ◌<◌}
-use native.Mathlib.Nat.{div-one, mod-lt, le_trans}
-use native.Mathlib.Omega.{arith}
-use lib.ListN.{length, get_or, length-set, get_or-replicate}
-use lib.Seq.{get_or-set_other}
+use lib.ListN.{length, get_or}
 use Rattle.tasks.specs.Sets.{states_to}
 use Rattle.tasks.specs.Valid.{Valid}
-use Rattle.tasks.proofs.Valid.{passed_valid}
 use Rattle.game.specs.States.{local_at}
-use Rattle.game.proofs.StateLaws.{locals_pos, rest_step, locals_step}
 use Rattle.game.proofs.states.locals_at.Given as goal
 
 abbrev pub invariant-loop-k : goal.invariant-loop-k

@@ -6,7 +6,6 @@ use borrow.Author.Tests.{lt-ltb, le-ltb}
 use Rattle.tasks.proofs.ListLaws.{longest_le}
 use Rattle.game.specs.States.{state_of}
 use Rattle.game.proofs.StateLaws.{age_lt}
-use borrow.Author.Rules.{rules}
 use Rattle.game.proofs.states.state_of.Goals as goal
 
 pub overflow_add-age : goal.overflow_add-age

@@ -1,5 +1,4 @@
 -- Listed, or not the longest.
-use borrow.Author.Rules.{rules}
 use Rattle.game.proofs.ticks.allows.Goals as goal
 
 pub returns-then-ends : goal.returns-then-ends

@@ -1,6 +1,4 @@
 -- A job that is not run does not finish.
-use borrow.Author.Tests.{not-true, not-false}
-use borrow.Author.Rules.{rules}
 use Rattle.game.proofs.ticks.can_finish.Goals as goal
 
 pub returns-then-not-run : goal.returns-then-not-run

@@ -1,7 +1,6 @@
 -- A hard task, its job in hand, and an age that is not below the deadline.
 use mathlib.Core.Path.{sym, ◌∙◌}
-use borrow.Author.Tests.{eq-eqb, ne_eqb, not-true, not-false}
-use borrow.Author.Rules.{rules}
+use borrow.Author.Tests.{eq-eqb, ne_eqb}
 use Rattle.game.proofs.ticks.is_late.Goals as goal
 
 pub returns-then-t-ne1 : goal.returns-then-t-ne1

@@ -1,8 +1,6 @@
 -- In range, then the end of the job, then the arrival.
 use mathlib.Core.Path.{sym, ◌∙◌}
-use borrow.Author.Tests.{not-true, not-false}
 use Rattle.game.specs.Ticks.{can}
-use borrow.Author.Rules.{rules}
 use Rattle.game.proofs.ticks.is_possible.Goals as goal
 
 pub returns-then-not-in_range : goal.returns-then-not-in_range

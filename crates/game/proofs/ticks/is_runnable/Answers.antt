@@ -1,7 +1,6 @@
 -- A job in hand, and an age below the deadline.
 use mathlib.Core.Path.{sym, ◌∙◌}
 use Rattle.game.specs.Ticks.{runnable}
-use borrow.Author.Rules.{rules}
 use Rattle.game.proofs.ticks.is_runnable.Goals as goal
 
 pub returns-then-in_hand : goal.returns-then-in_hand

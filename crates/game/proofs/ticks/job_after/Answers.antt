@@ -2,11 +2,9 @@
 use mathlib.Core.Path.{subst}
 use native.Mathlib.Omega.{arith}
 use lib.Dec.{T, ltb→lt}
-use borrow.Author.Tests.{not-true, not-false}
 use Rattle.tasks.proofs.ListLaws.{longest_le}
 use Rattle.tasks.specs.Lists.{longest_of}
 use Rattle.game.specs.States.{given_fits}
-use borrow.Author.Rules.{rules}
 use Rattle.game.proofs.ticks.job_after.Goals as goal
 
 pub returns-then-not-run : goal.returns-then-not-run

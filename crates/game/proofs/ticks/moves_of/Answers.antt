@@ -5,7 +5,6 @@ use native.Mathlib.Omega.{arith}
 use Rattle.tasks.proofs.ListLaws.{longest_le}
 use Rattle.game.proofs.StateLaws.{locals_le}
 use Rattle.game.proofs.TickLaws.{summarised}
-use borrow.Author.Rules.{rules}
 use Rattle.game.proofs.ticks.moves_of.Goals as goal
 use Rattle.game.proofs.ticks.moves_of.Goals.{After-longest-cmax}
 

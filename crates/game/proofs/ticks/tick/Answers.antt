@@ -2,11 +2,9 @@
 use mathlib.Core.Bool.{true}
 use mathlib.Core.Path.{◌≡◌, sym, ◌∙◌}
 use native.Mathlib.Omega.{arith}
-use borrow.Author.Tests.{not-true, not-false}
 use Rattle.tasks.proofs.ListLaws.{longest_le}
 use Rattle.game.specs.Ticks.{can, tick_of}
 use Rattle.game.proofs.TickLaws.{can_job, can_age}
-use borrow.Author.Rules.{rules}
 use Rattle.game.proofs.ticks.tick.Goals as goal
 use Rattle.game.proofs.ticks.tick.Goals.{Else-not-is_possible}
 

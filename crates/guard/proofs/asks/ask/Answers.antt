@@ -1,5 +1,5 @@
 -- The set's own test first, and then the table's length.
-use Rattle.std.proofs.Common.{sym, ◌∙◌, arith, rules, le-ltb, lt-ltb}
+use Rattle.std.proofs.Common.{sym, ◌∙◌, arith, le-ltb, lt-ltb}
 use Rattle.tasks.proofs.Valid.{passed, valid}
 use Rattle.guard.proofs.asks.ask.Goals as goal
 

@@ -1,8 +1,6 @@
 -- The entry at the run's index.
-use Rattle.std.proofs.Common.{sym, ◌∙◌, arith, rules}
-use borrow.Author.Tests.{not-true, not-false}
+use Rattle.std.proofs.Common.{sym, ◌∙◌, arith}
 use Rattle.tasks.proofs.Valid.{passed_valid}
-use Rattle.guard.specs.Runs.{fits}
 use Rattle.guard.proofs.RunLaws.{fits_at, Fits, small_substitutions, index_fits}
 use Rattle.guard.proofs.AskLaws.{entry_bad, entry_good}
 use Rattle.guard.proofs.asks.ask_entry.Goals as goal

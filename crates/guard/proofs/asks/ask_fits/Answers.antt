@@ -1,6 +1,5 @@
 -- 21, 14, 20, 15, and then the entry.
-use Rattle.std.proofs.Common.{T, sym, ◌∙◌, subst, arith, rules, le-ltb, lt-ltb, eq-eqb, ne_eqb}
-use borrow.Author.Tests.{not-true, not-false}
+use Rattle.std.proofs.Common.{T, sym, ◌∙◌, subst, arith, le-ltb, lt-ltb, eq-eqb, ne_eqb}
 use Rattle.tasks.proofs.Valid.{passed_valid}
 use Rattle.guard.specs.Ask.{ask_fits}
 use Rattle.guard.proofs.asks.ask_fits.Goals as goal

@@ -1,6 +1,5 @@
 -- Not allowed, the first that is, or one with less time left.
-use Rattle.std.proofs.Common.{◌≡◌, ◌+◌, Bool, true, false, cond, ltb, sym, ◌∙◌, ap₂, rules, le-ltb, lt-ltb}
-use borrow.Author.Tests.{not-true, not-false}
+use Rattle.std.proofs.Common.{◌≡◌, ◌+◌, Bool, true, false, cond, ltb, sym, ◌∙◌, ap₂, le-ltb, lt-ltb}
 use Rattle.guard.specs.Ask.{better}
 use Rattle.guard.proofs.AskLaws.{better_by}
 use Rattle.guard.proofs.asks.better_of.Goals as goal

@@ -1,5 +1,5 @@
 -- Allowed, or substituted.
-use Rattle.std.proofs.Common.{sym, ◌∙◌, rules}
+use Rattle.std.proofs.Common.{sym, ◌∙◌}
 use Rattle.guard.specs.Ask.{choice_for}
 use Rattle.guard.proofs.asks.choose.Goals as goal
 

@@ -1,5 +1,5 @@
 -- A substitution, or the proposal itself.
-use Rattle.std.proofs.Common.{rules, eq-eqb, ne_eqb}
+use Rattle.std.proofs.Common.{eq-eqb, ne_eqb}
 use Rattle.guard.specs.Ask.{ask_given}
 use Rattle.guard.proofs.asks.give.Goals as goal
 

@@ -1,6 +1,5 @@
 -- Not named, or legal.
-use Rattle.std.proofs.Common.{sym, ◌∙◌, rules}
-use borrow.Author.Tests.{not-true, not-false}
+use Rattle.std.proofs.Common.{sym, ◌∙◌}
 use Rattle.guard.proofs.asks.named_legal.Goals as goal
 
 pub returns-then-not-allows : goal.returns-then-not-allows

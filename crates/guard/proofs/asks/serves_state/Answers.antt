@@ -1,6 +1,5 @@
 -- The choices before this one.
-use Rattle.std.proofs.Common.{◌≡◌, ℕ, ◌-◌, ◌<◌, ◌≤◌, true, sym, ◌∙◌, arith, rules, below_none, below_more}
-use borrow.Author.Tests.{not-true, not-false}
+use Rattle.std.proofs.Common.{◌≡◌, true, sym, ◌∙◌, arith, below_none, below_more}
 use Rattle.guard.specs.Ask.{serves_for}
 use Rattle.guard.proofs.RunLaws.{all_fails, all_passes}
 use Rattle.guard.proofs.AskLaws.{serves_none, serves_some}

@@ -1,5 +1,5 @@
 -- The best of the first k tasks.
-use Rattle.std.proofs.Common.{◌≡◌, ◌-◌, ◌≤◌, refl, ap, ◌∙◌, arith, rules}
+use Rattle.std.proofs.Common.{◌≡◌, refl, ap, ◌∙◌, arith}
 use Rattle.tasks.proofs.Valid.{passed_valid}
 use Rattle.guard.specs.Ask.{substitute_to}
 use Rattle.guard.proofs.AskLaws.{better_le, substitute_step}

@@ -1,8 +1,6 @@
 -- The best of the first k tasks.
-use Rattle.std.proofs.Common.{◌≡◌, ◌-◌, ◌≤◌, refl, ap, ◌∙◌, arith, rules}
-use Rattle.tasks.proofs.Valid.{passed_valid}
+use Rattle.std.proofs.Common.{◌≡◌, ◌-◌, ◌≤◌}
 use Rattle.guard.specs.Ask.{substitute_to}
-use Rattle.guard.proofs.AskLaws.{better_le, substitute_step}
 use Rattle.guard.proofs.asks.substitute.Given as goal
 
 abbrev pub invariant-loop-k : goal.invariant-loop-k

@@ -1,5 +1,4 @@
 -- Each count, one more or none.
-use Rattle.std.proofs.Common.{rules}
 use Rattle.guard.proofs.reports.counts_after.Goals as goal
 
 pub returns : goal.returns

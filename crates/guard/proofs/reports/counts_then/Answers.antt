@@ -1,5 +1,5 @@
 -- Of a task, or beyond the tasks.
-use Rattle.std.proofs.Common.{◌∙◌, rules, le-ltb, lt-ltb}
+use Rattle.std.proofs.Common.{◌∙◌, le-ltb, lt-ltb}
 use Rattle.guard.proofs.reports.counts_then.Goals as goal
 
 pub returns-then-k-n : goal.returns-then-k-n

@@ -1,5 +1,5 @@
 -- None before k.
-use Rattle.std.proofs.Common.{◌≡◌, ◌-◌, ◌≤◌, sym, ap, ◌∙◌, arith, rules}
+use Rattle.std.proofs.Common.{◌≡◌, ◌-◌, sym, ap, ◌∙◌, arith}
 use Rattle.arena.specs.Tests.{first}
 use Rattle.shield.proofs.TestLaws.{first_here, first_next, first_end}
 use Rattle.guard.specs.Report.{ticked, is_such}

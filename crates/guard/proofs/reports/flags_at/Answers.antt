@@ -1,5 +1,5 @@
 -- The run job finished, and the task's bit of the arrivals.
-use Rattle.std.proofs.Common.{add-one, rules}
+use Rattle.std.proofs.Common.{add-one}
 use Rattle.guard.proofs.reports.flags_at.Goals as goal
 
 pub returns : goal.returns

@@ -1,5 +1,5 @@
 -- Finished with none run, or a bit above.
-use Rattle.std.proofs.Common.{sym, ◌∙◌, arith, rules}
+use Rattle.std.proofs.Common.{sym, ◌∙◌, arith}
 use Rattle.tasks.proofs.Valid.{passed_valid}
 use Rattle.guard.specs.Report.{strays}
 use Rattle.guard.proofs.reports.is_stray.Goals as goal

@@ -1,5 +1,5 @@
 -- One more, or none.
-use Rattle.std.proofs.Common.{arith, rules}
+use Rattle.std.proofs.Common.{arith}
 use Rattle.guard.proofs.reports.more.Goals as goal
 
 pub returns-then-so : goal.returns-then-so

@@ -1,5 +1,5 @@
 -- The counts of each place.
-use Rattle.std.proofs.Common.{arith, rules}
+use Rattle.std.proofs.Common.{arith}
 use Rattle.guard.proofs.RunLaws.{all_seven}
 use Rattle.guard.proofs.reports.move_counts.Goals as goal
 

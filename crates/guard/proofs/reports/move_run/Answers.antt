@@ -1,5 +1,4 @@
 -- Every place, and a tick more.
-use Rattle.std.proofs.Common.{rules}
 use Rattle.tasks.proofs.Valid.{passed_valid}
 use Rattle.guard.specs.Report.{state_then, counts_then, run_after}
 use Rattle.guard.proofs.RunLaws.{fits_at, Fits, small_counts}

@@ -1,5 +1,4 @@
 -- The state of each place.
-use Rattle.std.proofs.Common.{rules}
 use Rattle.guard.proofs.RunLaws.{all_seven}
 use Rattle.guard.proofs.reports.move_states.Goals as goal
 

@@ -1,6 +1,5 @@
 -- The set's own test first, and then 21.
-use Rattle.std.proofs.Common.{T, sym, ◌∙◌, subst, rules}
-use borrow.Author.Tests.{not-true, not-false}
+use Rattle.std.proofs.Common.{T, sym, ◌∙◌, subst}
 use Rattle.tasks.proofs.Valid.{passed}
 use Rattle.guard.proofs.reports.report.Goals as goal
 

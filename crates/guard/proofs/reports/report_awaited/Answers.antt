@@ -1,5 +1,5 @@
 -- 14, 17, and then what the report names.
-use Rattle.std.proofs.Common.{sym, ◌∙◌, rules, eq-eqb, ne_eqb}
+use Rattle.std.proofs.Common.{sym, ◌∙◌, eq-eqb, ne_eqb}
 use Rattle.tasks.proofs.Valid.{passed_valid}
 use Rattle.guard.specs.Report.{next_reading}
 use Rattle.guard.proofs.RunLaws.{fits_at, Fits, open_ticks}

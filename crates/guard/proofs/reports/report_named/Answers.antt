@@ -1,5 +1,5 @@
 -- 18, then 19, and then the run after it.
-use Rattle.std.proofs.Common.{◌≡◌, ℕ, Bool, true, false, List, sym, ap, ◌∙◌, add-one, rules, le-ltb, lt-ltb}
+use Rattle.std.proofs.Common.{◌≡◌, ℕ, Bool, true, false, List, sym, ap, ◌∙◌, add-one, le-ltb, lt-ltb}
 use Rattle.arena.specs.Tests.{first}
 use Rattle.tasks.specs.declared.sets.Set.{Set}
 use Rattle.tasks.specs.Sets.{Passed}

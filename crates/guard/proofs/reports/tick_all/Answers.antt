@@ -1,5 +1,4 @@
 -- The tick of each place.
-use Rattle.std.proofs.Common.{rules}
 use Rattle.guard.specs.Report.{tick_at}
 use Rattle.guard.proofs.RunLaws.{all_seven}
 use Rattle.guard.proofs.reports.tick_all.Goals as goal

@@ -1,5 +1,5 @@
 -- The game's own tick, with what the outcome says of the task.
-use Rattle.std.proofs.Common.{◌∙◌, add-one, rules}
+use Rattle.std.proofs.Common.{◌∙◌, add-one}
 use Rattle.guard.proofs.reports.tick_at.Goals as goal
 
 pub returns : goal.returns

@@ -1,5 +1,5 @@
 -- Nothing, or a choice.
-use Rattle.std.proofs.Common.{◌∙◌, rules, le-ltb, lt-ltb, le-leb}
+use Rattle.std.proofs.Common.{◌∙◌, le-ltb, lt-ltb, le-leb}
 use borrow.Author.Tests.{lt-leb}
 use Rattle.guard.proofs.runs.awaited_fits.Goals as goal
 

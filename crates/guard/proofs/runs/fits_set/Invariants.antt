@@ -1,8 +1,6 @@
 -- The places before k fit.
-use Rattle.std.proofs.Common.{◌≡◌, ℕ, ◌-◌, ◌<◌, ◌≤◌, true, false, sym, ◌∙◌, arith, rules, below_none, below_more}
-use borrow.Author.Tests.{not-true, not-false}
+use Rattle.std.proofs.Common.{◌≡◌, ℕ, ◌-◌, ◌<◌, ◌≤◌, true}
 use Rattle.guard.specs.Runs.{place_fits}
-use Rattle.guard.proofs.RunLaws.{all_fails, all_passes, fits_over, fits_awaited}
 use Rattle.guard.proofs.runs.fits_set.Given as goal
 
 abbrev pub invariant-loop-k : goal.invariant-loop-k

@@ -1,5 +1,4 @@
 -- States and counts at the start.
-use Rattle.std.proofs.Common.{rules}
 use Rattle.guard.specs.Runs.{start_run}
 use Rattle.guard.proofs.runs.fresh_run.Goals as goal
 

@@ -1,5 +1,5 @@
 -- Age, job, and the three counts.
-use Rattle.std.proofs.Common.{sym, ◌∙◌, rules, eq-eqb, ne_eqb}
+use Rattle.std.proofs.Common.{sym, ◌∙◌, eq-eqb, ne_eqb}
 use Rattle.guard.specs.Runs.{place_empty}
 use Rattle.guard.proofs.RunLaws.{empty_last}
 use Rattle.guard.proofs.runs.is_empty.Goals as goal

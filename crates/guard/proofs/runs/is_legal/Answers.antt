@@ -1,5 +1,5 @@
 -- Idle, or a task within the count that is runnable.
-use Rattle.std.proofs.Common.{sym, ap, ◌∙◌, arith, rules}
+use Rattle.std.proofs.Common.{sym, ap, ◌∙◌, arith}
 use Rattle.tasks.proofs.Valid.{passed_valid}
 use Rattle.guard.specs.Runs.{legal_for}
 use Rattle.game.proofs.LegalLaws.{legal_none, legal_task}

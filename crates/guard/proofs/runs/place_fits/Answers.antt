@@ -1,5 +1,5 @@
 -- A task's place, or one beyond the tasks.
-use Rattle.std.proofs.Common.{◌∙◌, rules, le-ltb, lt-ltb}
+use Rattle.std.proofs.Common.{◌∙◌, le-ltb, lt-ltb}
 use Rattle.guard.specs.Runs.{place_fits}
 use Rattle.guard.proofs.runs.place_fits.Goals as goal
 

@@ -1,5 +1,5 @@
 -- The set's own test first.
-use Rattle.std.proofs.Common.{sym, ap, ◌∙◌, rules}
+use Rattle.std.proofs.Common.{sym, ap, ◌∙◌}
 use Rattle.guard.specs.Runs.{start_tested}
 use Rattle.guard.proofs.runs.start.Goals as goal
 

@@ -1,5 +1,5 @@
 -- With a job in hand, and with none.
-use Rattle.std.proofs.Common.{◌≡◌, ◌+◌, eqb, sym, ap, ◌∙◌, arith, rules}
+use Rattle.std.proofs.Common.{◌≡◌, ◌+◌, eqb, sym, ap, ◌∙◌, arith}
 use Rattle.guard.proofs.runs.sum_holds.Goals as goal
 
 pub returns-then-in_hand : goal.returns-then-in_hand

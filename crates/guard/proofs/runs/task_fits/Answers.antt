@@ -1,6 +1,6 @@
 -- In range, the sum, arrived.
-use Rattle.std.proofs.Common.{sym, ◌∙◌, rules, le-leb}
-use borrow.Author.Tests.{lt-leb, not-true, not-false}
+use Rattle.std.proofs.Common.{sym, ◌∙◌, le-leb}
+use borrow.Author.Tests.{lt-leb}
 use Rattle.guard.specs.Runs.{task_fits}
 use Rattle.guard.proofs.runs.task_fits.Goals as goal
 

@@ -2,7 +2,6 @@
 use mathlib.Core.Path.{sym, ◌∙◌}
 use Rattle.tasks.proofs.Valid.{passed_states}
 use Rattle.shield.proofs.BuildLaws.{built_refused}
-use borrow.Author.Rules.{rules}
 use Rattle.shield.proofs.builder.build.Goals as goal
 
 pub build_passed-requires : goal.build_passed-requires

@@ -5,7 +5,6 @@ use Rattle.tasks.proofs.Valid.{passed_valid}
 use Rattle.game.proofs.StateLaws.{states_pos}
 use Rattle.shield.specs.Build.{too_short, Builds}
 use Rattle.shield.proofs.BuildLaws.{short_table, short_work, built_safe, built_falls}
-use borrow.Author.Rules.{rules}
 use Rattle.shield.proofs.builder.build_passed.Goals as goal
 
 pub returns-then-table-size : goal.returns-then-table-size

@@ -1,10 +1,8 @@
 -- The entries before i.
-use borrow.Author.Rules.{rules}
 use borrow.Author.Tests.{eq-eqb, ne_eqb}
 use mathlib.Core.Bool.{not}
-use mathlib.Core.Logic.{⊎_elim}
 use mathlib.Core.Path.{◌≡◌, ap, ◌∙◌}
-use Prim.Native.Nat.{◌+◌, ◌-◌, ◌≤◌}
+use Prim.Native.Nat.{◌+◌}
 use native.Mathlib.Omega.{arith}
 use Rattle.arena.specs.Tests.{count}
 use Rattle.shield.specs.Entries.{live}
@@ -16,8 +14,8 @@ pub loop-i-preserved : goal.loop-i-preserved
 loop-i-preserved c = let l = c.loop-i in
     let f = live c.args.table.now in
     elim c.if-table-i-ne0.branch [
-      then-table-i-ne0 w ↦ (omega arith, omega arith, w.found-is ∙ ap (λ n. n + 1) l.invariant.2 ∙ count_on l.i f (ap not (ne_eqb _ _ w.if-table-i-ne0.true)))
-    | else-table-i-ne0 w ↦ (omega arith, omega arith, w.found-is ∙ l.invariant.2 ∙ count_off l.i f (ap not (eq-eqb _ _ w.if-table-i-ne0.false)))
+      | then-table-i-ne0 w ↦ (omega arith, omega arith, w.found-is ∙ ap (λ n. n + 1) l.invariant.2 ∙ count_on l.i f (ap not (ne_eqb _ _ w.if-table-i-ne0.true)))
+      | else-table-i-ne0 w ↦ (omega arith, omega arith, w.found-is ∙ l.invariant.2 ∙ count_off l.i f (ap not (eq-eqb _ _ w.if-table-i-ne0.false)))
     ]
 
 pub returns : goal.returns

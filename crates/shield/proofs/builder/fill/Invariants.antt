@@ -1,11 +1,8 @@
 -- The bytes before i are v.
-use borrow.Author.Fill.{fill_none, fill_more}
-use borrow.Author.Rules.{rules}
-use mathlib.Core.Path.{◌≡◌, refl, ap, ◌∙◌}
+use mathlib.Core.Path.{◌≡◌}
 use mathlib.Core.List.{◌++◌}
 use Prim.Native.Nat.{◌-◌, ◌≤◌}
-use native.Mathlib.Omega.{arith}
-use lib.ListN.{length, drop, set, replicate, length-set}
+use lib.ListN.{length, drop, replicate}
 use Rattle.shield.proofs.builder.fill.Given as goal
 
 abbrev pub invariant-loop-i : goal.invariant-loop-i

@@ -2,9 +2,8 @@
 use borrow.Author.Rules.{rules}
 use mathlib.Core.List.{◌++◌}
 use mathlib.Core.Path.{◌≡◌, ap, ap₂, ◌∙◌}
-use Prim.Native.Nat.{◌-◌, ◌≤◌}
 use native.Mathlib.Omega.{arith}
-use lib.ListN.{length, drop, set, length-set}
+use lib.ListN.{drop, set, length-set}
 use Rattle.shield.specs.Entries.{list_to}
 use Rattle.shield.specs.Shield.{next_entry}
 use Rattle.shield.proofs.EntryLaws.{list_step}

@@ -1,13 +1,10 @@
 -- The entries before i.
-use borrow.Author.Rules.{rules}
 use mathlib.Core.List.{◌++◌}
-use mathlib.Core.Path.{◌≡◌, ap, ap₂, ◌∙◌}
+use mathlib.Core.Path.{◌≡◌}
 use Prim.Native.Nat.{◌-◌, ◌≤◌}
-use native.Mathlib.Omega.{arith}
-use lib.ListN.{length, drop, set, length-set}
+use lib.ListN.{length, drop}
 use Rattle.shield.specs.Entries.{list_to}
 use Rattle.shield.specs.Shield.{next_entry}
-use Rattle.shield.proofs.EntryLaws.{list_step}
 use Rattle.shield.proofs.builder.next_entries.Given as goal
 
 abbrev pub invariant-loop-i : goal.invariant-loop-i

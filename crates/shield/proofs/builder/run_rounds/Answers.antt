@@ -1,5 +1,5 @@
 -- Each turn ends in the table of one more round, or in the bytes at the end.
-use Rattle.std.proofs.Common.{◌≡◌, refl, sym, ap, ap₂, ◌∙◌, List, ◌++◌, ℕ, ◌+◌, ◌≤◌, T, length, drop, arith, rules}
+use Rattle.std.proofs.Common.{◌≡◌, refl, sym, ap, ap₂, ◌∙◌, ◌++◌, ℕ, ◌+◌, ◌≤◌, T, drop, arith}
 use lib.ListN.{replicate, length-replicate}
 use lib.Seq.{drop_at}
 use Rattle.arena.specs.Arena as Arena

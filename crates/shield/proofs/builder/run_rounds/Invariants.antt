@@ -1,25 +1,14 @@
 -- Before each turn the table is that after as many rounds as were counted, and the start is left.
-use borrow.Author.Rules.{rules}
 use mathlib.Core.List.{List, ◌++◌}
-use mathlib.Core.Path.{◌≡◌, refl, sym, ap, ap₂, ◌∙◌}
-use Prim.Native.Nat.{ℕ, ◌+◌, ◌≤◌}
-use native.Mathlib.Omega.{arith}
+use mathlib.Core.Path.{◌≡◌}
+use Prim.Native.Nat.{ℕ, ◌≤◌}
 use lib.Dec.{T}
-use lib.ListN.{length, drop, replicate, length-replicate}
-use lib.Seq.{drop_at}
+use lib.ListN.{drop}
 use Rattle.arena.specs.Arena as Arena
 use Rattle.arena.specs.Tests.{count}
 use Rattle.tasks.specs.declared.sets.Set.{Set}
-use Rattle.tasks.specs.Sets.{states_of}
-use Rattle.tasks.proofs.Valid.{passed_valid}
 use Rattle.game.specs.Game.{arena_of}
-use Rattle.arena.proofs.Rounds.{R_le, R_more}
-use Rattle.game.proofs.Sound.{sound}
-use Rattle.game.proofs.StateLaws.{states_pos}
-use Rattle.shield.specs.declared.builder.Settled.TheVariants.{Safe}
-use Rattle.shield.specs.Entries.{entry_at, live}
 use Rattle.shield.specs.Shield.{table_after}
-use Rattle.shield.proofs.RoundLaws.{first_table, first_count, count_left, count_down, same_count, fewer_left, start_lost, start_left, settled_falls, settled_safe, drop_after, round_after}
 use Rattle.shield.proofs.builder.run_rounds.Given as goal
 
 pub record Kept (s : Set) (t w : List ℕ) (n : ℕ) (t' w' : List ℕ) (k r : ℕ) : Type 0 where

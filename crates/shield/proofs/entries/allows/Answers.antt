@@ -1,6 +1,5 @@
 -- The choice's bit.
 use mathlib.Core.Path.{refl}
-use borrow.Author.Rules.{rules}
 use Rattle.shield.specs.Entries.{names}
 use Rattle.shield.proofs.entries.allows.Goals as goal
 

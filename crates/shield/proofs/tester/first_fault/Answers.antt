@@ -1,7 +1,6 @@
 -- No entry before i is faulty.
-use borrow.Author.Rules.{rules}
 use mathlib.Core.Path.{◌≡◌, sym, ap, ◌∙◌}
-use Prim.Native.Nat.{◌-◌, ◌≤◌}
+use Prim.Native.Nat.{◌-◌}
 use native.Mathlib.Omega.{arith}
 use Rattle.arena.specs.Tests.{first}
 use Rattle.shield.specs.Test.{faulty}

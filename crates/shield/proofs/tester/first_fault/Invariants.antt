@@ -1,11 +1,8 @@
 -- No entry before i is faulty.
-use borrow.Author.Rules.{rules}
-use mathlib.Core.Path.{◌≡◌, sym, ap, ◌∙◌}
+use mathlib.Core.Path.{◌≡◌}
 use Prim.Native.Nat.{◌-◌, ◌≤◌}
-use native.Mathlib.Omega.{arith}
 use Rattle.arena.specs.Tests.{first}
 use Rattle.shield.specs.Test.{faulty}
-use Rattle.shield.proofs.TestLaws.{first_here, first_next, first_end}
 use Rattle.shield.proofs.tester.first_fault.Given as goal
 
 abbrev pub invariant-loop-i : goal.invariant-loop-i

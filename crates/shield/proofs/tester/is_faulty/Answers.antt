@@ -5,7 +5,6 @@ use native.Mathlib.Omega.{arith}
 use lib.Dec.{eqb}
 use Rattle.shield.specs.Entries.{entry_at}
 use Rattle.shield.proofs.TestLaws.{faulty_zero, faulty_other}
-use borrow.Author.Rules.{rules}
 use Rattle.shield.proofs.tester.is_faulty.Goals as goal
 
 pub returns-then-entry-eq0 : goal.returns-then-entry-eq0

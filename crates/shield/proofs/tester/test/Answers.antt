@@ -2,7 +2,6 @@
 use mathlib.Core.Path.{sym, ap, ◌∙◌}
 use Rattle.tasks.proofs.Valid.{passed_states}
 use Rattle.shield.specs.Test.{test_tested}
-use borrow.Author.Rules.{rules}
 use Rattle.shield.proofs.tester.test.Goals as goal
 
 pub test_passed-requires : goal.test_passed-requires

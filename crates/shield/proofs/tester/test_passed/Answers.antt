@@ -1,7 +1,6 @@
 -- Long enough, and without fault.
 use borrow.Author.Tests.{lt-ltb, le-ltb}
 use mathlib.Core.Path.{sym}
-use borrow.Author.Rules.{rules}
 use Rattle.shield.proofs.tester.test_passed.Goals as goal
 
 pub returns-then-table-size : goal.returns-then-table-size

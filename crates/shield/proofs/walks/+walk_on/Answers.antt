@@ -1,5 +1,5 @@
 -- The walk with k tasks left asks of each of task k's moves what the walk with k - 1 left says.
-use Rattle.std.proofs.Common.{◌≡◌, refl, sym, ap, subst, ◌∙◌, Bool, true, ℕ, suc, ◌+◌, ◌-◌, ◌*◌, ◌^◌, ◌≤◌, ◌<◌, T, eqb, length, get_or, arith, rules}
+use Rattle.std.proofs.Common.{◌≡◌, refl, sym, ap, subst, ◌∙◌, Bool, true, ℕ, suc, ◌+◌, ◌-◌, ◌*◌, ◌^◌, ◌≤◌, ◌<◌, T, eqb, length, get_or, arith}
 use native.Mathlib.Nat.{add-zero}
 use Rattle.arena.specs.Tests.{imp}
 use Rattle.tasks.specs.Sets.{task_at, locals_of, states_to, Passed}
@@ -113,7 +113,7 @@ pub returns-then-not-walk_on-2 : goal.returns-then-not-walk_on-2
 returns-then-not-walk_on-2 t c = let m = (goal.at.returns-then-not-walk_on-2 t c).After-locals in
     let b = c.moves_of-m.result.comes in
     let come : imp b (good t m 0) ≡ true =
-        elim c.if-m-2.branch [ then-m-2+else-not-walk_on w ↦ imp_on b _ (good_zero t m ∙ sym w.walk_on.ensures ∙ w.if-not-walk_on.false) | else-m-2 w ↦ imp_off b _ w.if-m-2.false ] in
+    elim c.if-m-2.branch [ then-m-2+else-not-walk_on w ↦ imp_on b _ (good_zero t m ∙ sym w.walk_on.ensures ∙ w.if-not-walk_on.false) | else-m-2 w ↦ imp_off b _ w.if-m-2.false ] in
     sym (turn t m ∙ every_end c.moves_of-m.result (good t m) c.if-m.false come c.if-m-3.true (sym c.walk_on-then-m-3.ensures ∙ c.if-not-walk_on-2.true))
 
 pub overflow_add-from-then-m-4 : goal.overflow_add-from-then-m-4
@@ -128,16 +128,16 @@ pub returns-then-m-4 : goal.returns-then-m-4
 returns-then-m-4 t c = let m = (goal.at.returns-then-m-4 t c).After-locals in
     let b = c.moves_of-m.result in
     let come : imp b.comes (good t m 0) ≡ true =
-        elim c.if-m-2.branch [ then-m-2+else-not-walk_on w ↦ imp_on b.comes _ (good_zero t m ∙ sym w.walk_on.ensures ∙ w.if-not-walk_on.false) | else-m-2 w ↦ imp_off b.comes _ w.if-m-2.false ] in
+    elim c.if-m-2.branch [ then-m-2+else-not-walk_on w ↦ imp_on b.comes _ (good_zero t m ∙ sym w.walk_on.ensures ∙ w.if-not-walk_on.false) | else-m-2 w ↦ imp_off b.comes _ w.if-m-2.false ] in
     let end : imp b.ends (good t m b.ended) ≡ true =
-        elim c.if-m-3.branch [ then-m-3+else-not-walk_on-2 w ↦ imp_on b.ends _ (sym w.walk_on-then-m-3.ensures ∙ w.if-not-walk_on-2.false) | else-m-3 w ↦ imp_off b.ends _ w.if-m-3.false ] in
+    elim c.if-m-3.branch [ then-m-3+else-not-walk_on-2 w ↦ imp_on b.ends _ (sym w.walk_on-then-m-3.ensures ∙ w.if-not-walk_on-2.false) | else-m-3 w ↦ imp_off b.ends _ w.if-m-3.false ] in
     c.walk_on-then-m-4.ensures ∙ sym (turn t m ∙ every_stay b (good t m) c.if-m.false come end c.if-m-4.true)
 
 pub returns : goal.returns
 returns t c = let m = (goal.at.returns t c).After-locals in
     let b = c.moves_of-m.result in
     let come : imp b.comes (good t m 0) ≡ true =
-        elim c.if-m-2.branch [ then-m-2+else-not-walk_on w ↦ imp_on b.comes _ (good_zero t m ∙ sym w.walk_on.ensures ∙ w.if-not-walk_on.false) | else-m-2 w ↦ imp_off b.comes _ w.if-m-2.false ] in
+    elim c.if-m-2.branch [ then-m-2+else-not-walk_on w ↦ imp_on b.comes _ (good_zero t m ∙ sym w.walk_on.ensures ∙ w.if-not-walk_on.false) | else-m-2 w ↦ imp_off b.comes _ w.if-m-2.false ] in
     let end : imp b.ends (good t m b.ended) ≡ true =
-        elim c.if-m-3.branch [ then-m-3+else-not-walk_on-2 w ↦ imp_on b.ends _ (sym w.walk_on-then-m-3.ensures ∙ w.if-not-walk_on-2.false) | else-m-3 w ↦ imp_off b.ends _ w.if-m-3.false ] in
+    elim c.if-m-3.branch [ then-m-3+else-not-walk_on-2 w ↦ imp_on b.ends _ (sym w.walk_on-then-m-3.ensures ∙ w.if-not-walk_on-2.false) | else-m-3 w ↦ imp_off b.ends _ w.if-m-3.false ] in
     sym (turn t m ∙ every_all b (good t m) c.if-m.false come end c.if-m-4.false)

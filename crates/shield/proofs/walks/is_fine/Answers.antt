@@ -1,11 +1,9 @@
 -- Legal, and no outcome astray.
-use borrow.Author.Tests.{not-true, not-false}
 use mathlib.Core.Path.{sym, subst, ◌∙◌}
 use native.Mathlib.Omega.{arith}
 use lib.Dec.{T}
 use Rattle.shield.specs.Shield.{fine_in}
 use Rattle.shield.proofs.FineLaws.{legal_hand}
-use borrow.Author.Rules.{rules}
 use Rattle.shield.proofs.walks.is_fine.Goals as goal
 
 pub returns-then-not-is_legal : goal.returns-then-not-is_legal

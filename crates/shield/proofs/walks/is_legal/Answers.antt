@@ -7,7 +7,6 @@ use Rattle.game.specs.Ticks.{runnable}
 use Rattle.tasks.proofs.Valid.{passed_valid}
 use Rattle.shield.specs.Shield.{legal_in}
 use Rattle.game.proofs.LegalLaws.{legal_none, legal_task}
-use borrow.Author.Rules.{rules}
 use Rattle.shield.proofs.walks.is_legal.Goals as goal
 
 pub returns-then-choice-eq0 : goal.returns-then-choice-eq0

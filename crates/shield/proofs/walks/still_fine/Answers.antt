@@ -1,7 +1,5 @@
 -- Named, and fine.
-use borrow.Author.Tests.{not-true, not-false}
 use mathlib.Core.Path.{sym, ◌∙◌}
-use borrow.Author.Rules.{rules}
 use Rattle.shield.proofs.walks.still_fine.Goals as goal
 
 pub returns-then-not-allows : goal.returns-then-not-allows

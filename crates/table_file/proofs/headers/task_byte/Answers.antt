@@ -2,7 +2,6 @@
 use mathlib.Core.Path.{sym, ◌∙◌}
 use native.Mathlib.Omega.{arith}
 use Rattle.table_file.proofs.FileLaws.{task_kind, task_deadline, task_runs, task_gaps}
-use borrow.Author.Rules.{rules}
 use Rattle.table_file.proofs.headers.task_byte.Goals as goal
 
 pub returns-then-k-eq0 : goal.returns-then-k-eq0

@@ -7,7 +7,6 @@ use native.Mathlib.Omega.{arith}
 use lib.ListN.{length}
 use Rattle.table_file.specs.Files.{header_length}
 use Rattle.table_file.specs.Open.{present}
-use borrow.Author.Rules.{rules}
 use Rattle.table_file.proofs.opener.bytes_present.Goals as goal
 
 pub returns-then-file-head : goal.returns-then-file-head

@@ -2,10 +2,8 @@
 use borrow.Author.Rules.{rules}
 use borrow.Author.Tests.{eq-eqb, ne_eqb}
 use mathlib.Core.Bool.{not}
-use mathlib.Core.Path.{◌≡◌, sym, ap, ◌∙◌}
-use Prim.Native.Nat.{◌-◌, ◌≤◌}
+use mathlib.Core.Path.{sym, ap, ◌∙◌}
 use native.Mathlib.Omega.{arith}
-use Rattle.arena.specs.Tests.{first}
 use Rattle.shield.proofs.TestLaws.{first_here, first_next, first_end}
 use Rattle.table_file.specs.Open.{differs, lowest}
 use Rattle.table_file.proofs.opener.first_difference.Goals as goal

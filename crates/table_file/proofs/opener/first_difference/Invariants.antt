@@ -1,12 +1,7 @@
 -- No byte from lo to before i differs.
-use borrow.Author.Rules.{rules}
-use borrow.Author.Tests.{eq-eqb, ne_eqb}
-use mathlib.Core.Bool.{not}
-use mathlib.Core.Path.{◌≡◌, sym, ap, ◌∙◌}
+use mathlib.Core.Path.{◌≡◌}
 use Prim.Native.Nat.{◌-◌, ◌≤◌}
-use native.Mathlib.Omega.{arith}
 use Rattle.arena.specs.Tests.{first}
-use Rattle.shield.proofs.TestLaws.{first_here, first_next, first_end}
 use Rattle.table_file.specs.Open.{differs, lowest}
 use Rattle.table_file.proofs.opener.first_difference.Given as goal
 

@@ -5,7 +5,6 @@ use lib.ListN.{drop}
 use Rattle.table_file.specs.Open.{part_of}
 use Rattle.table_file.proofs.OpenLaws.{rest}
 use Rattle.table_file.proofs.Opening.{opening}
-use borrow.Author.Rules.{rules}
 use Rattle.table_file.proofs.opener.open.Goals as goal
 
 pub slice_bounds-result-count : goal.slice_bounds-result-count

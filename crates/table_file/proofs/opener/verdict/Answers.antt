@@ -2,7 +2,6 @@
 use mathlib.Core.Path.{sym, ap, ◌∙◌}
 use Rattle.tasks.proofs.Valid.{passed_states}
 use Rattle.table_file.specs.Open.{open_tested}
-use borrow.Author.Rules.{rules}
 use Rattle.table_file.proofs.opener.verdict.Goals as goal
 
 pub verdict_passed-requires : goal.verdict_passed-requires

@@ -4,7 +4,6 @@ use native.Mathlib.Omega.{arith}
 use Rattle.tasks.proofs.Valid.{passed_valid}
 use Rattle.table_file.specs.Open.{open_verdict}
 use Rattle.table_file.proofs.OpenLaws.{present_le, open_short, open_mark, open_version, open_header, open_length, open_test}
-use borrow.Author.Rules.{rules}
 use Rattle.table_file.proofs.opener.verdict_passed.Goals as goal
 
 pub returns-then-file-lt5 : goal.returns-then-file-lt5

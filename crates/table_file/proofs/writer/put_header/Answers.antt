@@ -2,7 +2,7 @@
 use borrow.Author.Rules.{rules}
 use mathlib.Core.Path.{◌≡◌, ap, ap₂, ◌∙◌}
 use mathlib.Core.List.{◌++◌}
-use Prim.Native.Nat.{◌-◌, ◌≤◌, ◌<◌}
+use Prim.Native.Nat.{◌<◌}
 use native.Mathlib.Omega.{arith}
 use lib.ListN.{length, take, drop, set, length-set}
 use lib.Seq.{take_all}

@@ -1,14 +1,9 @@
 -- The bytes before i are the header's.
-use borrow.Author.Rules.{rules}
-use mathlib.Core.Path.{◌≡◌, ap, ap₂, ◌∙◌}
+use mathlib.Core.Path.{◌≡◌}
 use mathlib.Core.List.{◌++◌}
-use Prim.Native.Nat.{◌-◌, ◌≤◌, ◌<◌}
-use native.Mathlib.Omega.{arith}
-use lib.ListN.{length, take, drop, set, length-set}
-use lib.Seq.{take_all}
-use Rattle.shield.proofs.EntryLaws.{copy_step}
-use Rattle.table_file.specs.Files.{header, header_length}
-use Rattle.table_file.proofs.FileLaws.{header_length_lem}
+use Prim.Native.Nat.{◌-◌, ◌≤◌}
+use lib.ListN.{length, take, drop}
+use Rattle.table_file.specs.Files.{header}
 use Rattle.table_file.proofs.writer.put_header.Given as goal
 
 abbrev pub invariant-loop-i : goal.invariant-loop-i

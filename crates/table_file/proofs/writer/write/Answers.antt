@@ -2,7 +2,6 @@
 use mathlib.Core.Path.{sym, ◌∙◌}
 use Rattle.tasks.proofs.Valid.{passed_states}
 use Rattle.table_file.proofs.WriteLaws.{refused_set}
-use borrow.Author.Rules.{rules}
 use Rattle.table_file.proofs.writer.write.Goals as goal
 
 pub write_passed-requires : goal.write_passed-requires

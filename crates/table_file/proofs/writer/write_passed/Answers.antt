@@ -3,7 +3,6 @@ use mathlib.Core.Path.{sym, ◌∙◌}
 use native.Mathlib.Omega.{arith}
 use Rattle.tasks.proofs.Valid.{passed_valid}
 use Rattle.table_file.proofs.WriteLaws.{short_table, short_file, refused_table, written}
-use borrow.Author.Rules.{rules}
 use Rattle.table_file.proofs.writer.write_passed.Goals as goal
 
 pub returns-then-table-size : goal.returns-then-table-size

@@ -1,6 +1,5 @@
 -- A value is on the list where its bit is set.
 use mathlib.Core.Path.{sym, ap}
-use borrow.Author.Rules.{rules}
 use Rattle.tasks.specs.Lists.{listed}
 use Rattle.tasks.proofs.ListLaws.{listed_at, listed_past}
 use Rattle.tasks.proofs.lists.has.Goals as goal

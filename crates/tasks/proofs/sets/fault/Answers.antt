@@ -2,7 +2,6 @@
 use mathlib.Core.Path.{sym, ◌∙◌}
 use borrow.Author.Tests.{lt-ltb, le-ltb}
 use Rattle.tasks.specs.Sets.{fault_of}
-use borrow.Author.Rules.{rules}
 use Rattle.tasks.proofs.sets.fault.Goals as goal
 
 pub returns-then-is_bad : goal.returns-then-is_bad

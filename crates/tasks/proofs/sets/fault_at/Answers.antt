@@ -2,7 +2,6 @@
 use mathlib.Core.Path.{sym, ◌∙◌}
 use borrow.Author.Tests.{lt-ltb, le-ltb}
 use Rattle.tasks.specs.Sets.{fault_at}
-use borrow.Author.Rules.{rules}
 use Rattle.tasks.proofs.sets.fault_at.Goals as goal
 
 pub returns-then-i-s : goal.returns-then-i-s

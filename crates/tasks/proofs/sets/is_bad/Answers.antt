@@ -1,8 +1,7 @@
 -- Kind, deadline and lists, one after the other.
 use mathlib.Core.Path.{sym, ◌∙◌}
-use borrow.Author.Tests.{lt-ltb, le-ltb, eq-eqb, ne_eqb, not-true, not-false}
+use borrow.Author.Tests.{lt-ltb, le-ltb, eq-eqb, ne_eqb}
 use Rattle.tasks.specs.Sets.{unfit}
-use borrow.Author.Rules.{rules}
 use Rattle.tasks.proofs.sets.is_bad.Goals as goal
 
 pub returns-then-t-gt1 : goal.returns-then-t-gt1

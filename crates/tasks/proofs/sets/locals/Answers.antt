@@ -5,7 +5,6 @@ use native.Mathlib.Nat.{mul-le-mul}
 use native.Mathlib.Omega.{arith}
 use Rattle.tasks.specs.Sets.{locals_of}
 use Rattle.tasks.proofs.ListLaws.{longest_le}
-use borrow.Author.Rules.{rules}
 use Rattle.tasks.proofs.sets.locals.Goals as goal
 
 small : (c : goal.After-longest-2) → c.longest.result * (c.longest-2.result + 1) ≤ 272

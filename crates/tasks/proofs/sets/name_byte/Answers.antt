@@ -1,7 +1,6 @@
 -- A letter, a digit or a hyphen.
 use mathlib.Core.Path.{sym, ◌∙◌}
 use Rattle.tasks.specs.Sets.{name_byte}
-use borrow.Author.Rules.{rules}
 use Rattle.tasks.proofs.sets.name_byte.Goals as goal
 
 pub returns-then-from_to : goal.returns-then-from_to

@@ -3,10 +3,9 @@ use borrow.Author.Tests.{eq-eqb, ne_eqb}
 use borrow.Author.Rules.{rules}
 use mathlib.Core.Path.{◌≡◌, sym, ap, ◌∙◌}
 use mathlib.Core.Bool.{true, false}
-use Prim.Native.Nat.{◌-◌, ◌≤◌}
 use native.Mathlib.Omega.{arith}
 use lib.ListN.{length, drop}
-use Rattle.tasks.specs.Sets.{characters, zeros}
+use Rattle.tasks.specs.Sets.{zeros}
 use Rattle.tasks.proofs.SetLaws.{characters_le, name_none, name_some, zeros_here, zeros_end}
 use Rattle.tasks.proofs.sets.name_fits.Goals as goal
 

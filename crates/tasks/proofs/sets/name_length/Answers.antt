@@ -2,11 +2,8 @@
 use borrow.Author.Rules.{rules}
 use mathlib.Core.Path.{◌≡◌, sym, ◌∙◌}
 use mathlib.Core.Bool.{true, false}
-use Prim.Native.Nat.{◌+◌, ◌-◌, ◌≤◌}
-use lib.ListN.{length, drop}
+use lib.ListN.{length}
 use native.Mathlib.Omega.{arith}
-use borrow.Author.Tests.{not-true, not-false}
-use Rattle.tasks.specs.Sets.{characters}
 use Rattle.tasks.proofs.SetLaws.{characters_here, characters_end}
 use Rattle.tasks.proofs.sets.name_length.Goals as goal
 

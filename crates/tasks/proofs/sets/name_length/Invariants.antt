@@ -1,13 +1,8 @@
 -- The characters before n, and those from n on.
-use borrow.Author.Rules.{rules}
-use mathlib.Core.Path.{◌≡◌, sym, ◌∙◌}
-use mathlib.Core.Bool.{true, false}
+use mathlib.Core.Path.{◌≡◌}
 use Prim.Native.Nat.{◌+◌, ◌-◌, ◌≤◌}
-use lib.ListN.{length, drop}
-use native.Mathlib.Omega.{arith}
-use borrow.Author.Tests.{not-true, not-false}
+use lib.ListN.{drop}
 use Rattle.tasks.specs.Sets.{characters}
-use Rattle.tasks.proofs.SetLaws.{characters_here, characters_end}
 use Rattle.tasks.proofs.sets.name_length.Given as goal
 
 abbrev pub invariant-loop-n : goal.invariant-loop-n

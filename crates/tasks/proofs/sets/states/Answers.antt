@@ -1,7 +1,7 @@
 -- The states of the first i tasks.
 use borrow.Author.Rules.{rules}
 use mathlib.Core.Path.{◌≡◌, ap, ◌∙◌}
-use Prim.Native.Nat.{◌+◌, ◌-◌, ◌^◌, ◌≤◌}
+use Prim.Native.Nat.{◌+◌}
 use native.Mathlib.Omega.{arith}
 use Rattle.tasks.specs.Sets.{states_to}
 use Rattle.tasks.proofs.SetLaws.{states_step, bound_step, bound_top}

@@ -1,14 +1,7 @@
 -- The records before i are without fault.
-use borrow.Author.Rules.{rules}
-use borrow.Author.Tests.{not-true, not-false, lt-ltb, le-ltb}
-use mathlib.Core.Path.{◌≡◌, sym, ap, subst, ◌∙◌}
-use mathlib.Core.Bool.{true, false}
-use Prim.Native.Nat.{◌+◌, ◌-◌, ◌≤◌}
-use native.Mathlib.Omega.{arith}
-use lib.Dec.{T}
-use Rattle.tasks.specs.declared.sets.Tested.TheVariants.{States, Refused}
-use Rattle.tasks.specs.Sets.{states_of, lowest_fault, test_states, test_set}
-use Rattle.tasks.proofs.SetLaws.{within_both, test_unnamed, test_counted, fault_here, fault_none, fault_end, states_by}
+use mathlib.Core.Path.{◌≡◌}
+use Prim.Native.Nat.{◌-◌, ◌≤◌}
+use Rattle.tasks.specs.Sets.{lowest_fault, test_states, test_set}
 use Rattle.tasks.proofs.sets.test.Given as goal
 
 abbrev pub invariant-loop-i : goal.invariant-loop-i
