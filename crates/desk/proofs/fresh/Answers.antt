@@ -1,5 +1,4 @@
 -- Nothing in it.
-use borrow.Author.Rules.{rules}
 use Rattle.desk.proofs.fresh.Goals as goal
 
 pub returns : goal.returns

@@ -1,6 +1,6 @@
 -- 0 to 9, a to f, and 16.
 use mathlib.Core.Path.{◌≡◌}
-use Prim.Native.Nat.{◌+◌, ◌-◌, ◌<◌}
+use Prim.Native.Nat.{◌+◌, ◌-◌, ◌<◌, ◌≤◌}
 use borrow.Author.Tests.{le-leb, lt-leb}
 use native.Mathlib.Omega.{arith}
 use Rattle.commands.specs.Words.{digit, hex_digit}
@@ -12,7 +12,7 @@ returns-then-b-lt48 c = record { value = let h : c.args.b < 97 = omega arith in 
 
 pub returns-then-b-le57 : goal.returns-then-b-le57
 unfolding hex_digit digit
-returns-then-b-le57 c = record { value = simp (le-leb _ _ c.if-b-lt48.false, le-leb _ _ c.if-b-le57.true); small = omega arith }
+returns-then-b-le57 c = let h : c.args.b ≤ 57 = omega arith in record { value = simp (le-leb _ _ c.if-b-lt48.false, le-leb _ _ h); small = omega arith }
 
 pub returns-then-b-lt97 : goal.returns-then-b-lt97
 unfolding hex_digit digit

@@ -3,7 +3,6 @@ use mathlib.Core.Path.{sym, ◌∙◌}
 use borrow.Author.Tests.{eq-eqb, ne_eqb}
 use Rattle.desk.specs.Steps.{run_after}
 use Rattle.desk_buffers.proofs.BytesLaws.{within_take}
-use borrow.Author.Rules.{rules}
 use Rattle.desk.proofs.run_commands.carry_out.Goals as goal
 
 pub returns-then-c-eq-START : goal.returns-then-c-eq-START

@@ -1,6 +1,5 @@
 -- A place at a time.
 use Prim.Native.Nat.{◌-◌, ◌≤◌}
-use borrow.Author.Rules.{rules}
 use Rattle.desk.proofs.run_commands.show.Given as goal
 
 abbrev pub invariant-loop-i : goal.invariant-loop-i

@@ -1,6 +1,5 @@
 -- What the call returns.
 use mathlib.Core.Path.{ap}
-use borrow.Author.Rules.{rules}
 use Rattle.desk.proofs.run_commands.start.Goals as goal
 
 pub returns : goal.returns

@@ -2,7 +2,6 @@
 use mathlib.Core.Path.{sym, ◌∙◌}
 use borrow.Author.Tests.{eq-eqb, ne_eqb}
 use Rattle.desk.specs.Fields.{run_with}
-use borrow.Author.Rules.{rules}
 use Rattle.desk.proofs.run_fields.with.Goals as goal
 
 pub returns-then-kind-eq-TICKS : goal.returns-then-kind-eq-TICKS

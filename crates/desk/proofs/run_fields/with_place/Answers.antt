@@ -1,7 +1,6 @@
 -- Tasks 1 to 7.
 use borrow.Author.Tests.{le-leb, lt-leb}
 use Rattle.desk.specs.Fields.{place_set}
-use borrow.Author.Rules.{rules}
 use Rattle.desk.proofs.run_fields.with_place.Goals as goal
 
 pub returns-then-i-lt1 : goal.returns-then-i-lt1

@@ -1,7 +1,6 @@
 -- Kind by kind.
 use borrow.Author.Tests.{eq-eqb, ne_eqb}
 use Rattle.desk.specs.Fields.{state_with}
-use borrow.Author.Rules.{rules}
 use Rattle.desk.proofs.run_fields.with_state.Goals as goal
 
 pub returns-then-kind-eq-AGE : goal.returns-then-kind-eq-AGE

@@ -7,7 +7,6 @@ use borrow.Author.Tests.{eq-eqb, ne_eqb}
 use Rattle.commands.specs.Kinds as kind
 use Rattle.desk.specs.Steps.{set_after, text_after}
 use Rattle.desk_buffers.proofs.BytesLaws.{within_take, within_drop}
-use borrow.Author.Rules.{rules}
 use Rattle.desk.proofs.set_commands.carry_out.Goals as goal
 
 pub returns-then-c-eq-READ : goal.returns-then-c-eq-READ

@@ -1,6 +1,5 @@
 -- What the writer leaves.
 use mathlib.Core.Path.{ap}
-use borrow.Author.Rules.{rules}
 use Rattle.desk.proofs.set_commands.write_sheet.Goals as goal
 
 pub returns-in-Length : goal.returns-in-Length

@@ -2,7 +2,6 @@
 use mathlib.Core.Path.{sym, ap, ◌∙◌}
 use borrow.Author.Tests.{eq-eqb, ne_eqb}
 use Rattle.desk.specs.Fields.{name_set, set_with}
-use borrow.Author.Rules.{rules}
 use Rattle.desk.proofs.set_fields.with.Goals as goal
 
 pub returns-then-kind-eq-NAME : goal.returns-then-kind-eq-NAME

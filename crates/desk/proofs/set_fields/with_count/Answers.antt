@@ -1,5 +1,4 @@
 -- The count.
-use borrow.Author.Rules.{rules}
 use Rattle.desk.proofs.set_fields.with_count.Goals as goal
 
 pub returns : goal.returns

@@ -1,7 +1,6 @@
 -- Kind by kind.
 use borrow.Author.Tests.{eq-eqb, ne_eqb}
 use Rattle.desk.specs.Fields.{task_with}
-use borrow.Author.Rules.{rules}
 use Rattle.desk.proofs.set_fields.with_field.Goals as goal
 
 pub returns-then-kind-eq-KIND : goal.returns-then-kind-eq-KIND

@@ -1,10 +1,7 @@
 -- The bytes before i are those of the name.
-use mathlib.Core.Path.{◌≡◌, refl, sym, ◌∙◌}
-use Prim.Native.Nat.{◌-◌, ◌≤◌}
-use Rattle.desk_buffers.specs.Bytes.{put_at, said}
+use mathlib.Core.Path.{refl, sym, ◌∙◌}
 use Rattle.desk_buffers.proofs.BytesLaws.{said_next, said_end}
 use Rattle.desk.proofs.StepLaws.{set_is}
-use borrow.Author.Rules.{rules}
 use native.Mathlib.Omega.{arith}
 use Rattle.desk.proofs.set_fields.with_name.Goals as goal
 

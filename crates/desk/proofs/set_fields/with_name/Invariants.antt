@@ -1,11 +1,7 @@
 -- The bytes before i are those of the name.
-use mathlib.Core.Path.{◌≡◌, refl, sym, ◌∙◌}
+use mathlib.Core.Path.{◌≡◌}
 use Prim.Native.Nat.{◌-◌, ◌≤◌}
 use Rattle.desk_buffers.specs.Bytes.{put_at, said}
-use Rattle.desk_buffers.proofs.BytesLaws.{said_next, said_end}
-use Rattle.desk.proofs.StepLaws.{set_is}
-use borrow.Author.Rules.{rules}
-use native.Mathlib.Omega.{arith}
 use Rattle.desk.proofs.set_fields.with_name.Given as goal
 
 abbrev pub invariant-loop-i : goal.invariant-loop-i

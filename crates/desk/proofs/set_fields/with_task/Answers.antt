@@ -1,7 +1,6 @@
 -- Tasks 1 to 7.
 use borrow.Author.Tests.{le-leb, lt-leb}
 use Rattle.desk.specs.Fields.{task_set}
-use borrow.Author.Rules.{rules}
 use Rattle.desk.proofs.set_fields.with_task.Goals as goal
 
 pub returns-then-i-lt1 : goal.returns-then-i-lt1

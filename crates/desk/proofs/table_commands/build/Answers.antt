@@ -1,6 +1,5 @@
 -- What the builder leaves.
 use Rattle.desk.proofs.StepLaws.{built_leaves}
-use borrow.Author.Rules.{rules}
 use Rattle.desk.proofs.table_commands.build.Goals as goal
 
 pub returns-in-Done : goal.returns-in-Done

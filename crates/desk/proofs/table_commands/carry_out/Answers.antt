@@ -1,6 +1,5 @@
 -- Build, test, write, open, print.
 use Rattle.desk.proofs.StepLaws.{build_step, test_step, write_step, open_step, print_step}
-use borrow.Author.Rules.{rules}
 use Rattle.desk.proofs.table_commands.carry_out.Goals as goal
 
 pub returns-then-c-eq-BUILD : goal.returns-then-c-eq-BUILD
@@ -22,7 +21,6 @@ pub returns-then-c-eq-OPEN : goal.returns-then-c-eq-OPEN
 returns-then-c-eq-OPEN g c =
     let a = c.args in
     open_step a.s a.c.kind a.l a.table.now a.work.now a.file.now a.text.now c.if-c-eq-BUILD.false c.if-c-eq-TEST_TABLE.false c.if-c-eq-WRITE.false c.if-c-eq-OPEN.true _ c.within-f.ensures.value _ _ c.«open».ensures.value c.«open».ensures.table_after
-
 
 pub returns : goal.returns
 returns g c =

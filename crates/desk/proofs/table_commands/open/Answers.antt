@@ -5,7 +5,6 @@ use lib.ListN.{length}
 use Rattle.table_file.specs.Open.{handed}
 use Rattle.desk_buffers.specs.Bytes.{put_at}
 use Rattle.desk.specs.After.{opened_length, opened_table}
-use borrow.Author.Rules.{rules}
 use Rattle.desk.proofs.table_commands.open.Goals as goal
 
 pub returns-in-Opens : goal.returns-in-Opens

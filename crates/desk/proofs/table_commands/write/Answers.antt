@@ -1,7 +1,6 @@
 -- What the writer leaves.
 use mathlib.Core.Path.{ap, ◌∙◌}
 use Rattle.table_file.specs.Write.{file_written}
-use borrow.Author.Rules.{rules}
 use Rattle.desk.proofs.table_commands.write.Goals as goal
 
 pub returns-in-Length : goal.returns-in-Length
