@@ -9,8 +9,7 @@ use Rattle.commands.specs.declared.numbers.Found.{Found}
 use Rattle.commands.specs.declared.numbers.Found.TheVariants.{Nothing, Value}
 use Rattle.commands.specs.declared.lines.Tried.{Tried}
 use Rattle.commands.specs.declared.lines.Tried.TheVariants.{Unfit, Fits}
-use Rattle.bytes.specs.Bytes.{index_of}
-use Rattle.commands.specs.Texts.{parts}
+use Rattle.commands.specs.Texts.{index_of, parts}
 use Rattle.commands.specs.Forms.{value_of, kept, no_values}
 use Rattle.commands.specs.declared.lines.Parsed.{Parsed}
 use Rattle.commands.specs.declared.lines.Parsed.TheVariants.{Mangled, Taken}

@@ -1,5 +1,5 @@
 -- Laws of texts: a text from a place on, split at a byte, and compared.
-use mathlib.Core.Bool.{Bool, true, false, ◌&&◌}
+use mathlib.Core.Bool.{Bool, true, false, ◌&&◌, cond}
 use mathlib.Core.List.{List, [], ◌∷◌}
 use mathlib.Core.Path.{◌≡◌, refl, ap}
 use Prim.Native.Nat.{ℕ, suc, ◌+◌, ◌-◌, ◌<◌, ◌≤◌}
@@ -9,15 +9,14 @@ use borrow.Author.Tests.{eq-eqb, ne_eqb}
 use lib.Dec.{eqb}
 use lib.ListN.{length, take, drop, get_or, length-drop, drop_of_length-le}
 use lib.Seq.{drop-cons, drop-drop}
-use Rattle.bytes.specs.Bytes.{index_of, index_after}
-use Rattle.commands.specs.Texts.{parts, same}
+use Rattle.commands.specs.Texts.{index_of, parts, same}
 
 -- the part before the first b
 abbrev pub first : ℕ → List ℕ → List ℕ
 first b l = take (index_of b l) l
 
 one_part : (b : ℕ) (l : List ℕ) → index_of b l ≡ length l → parts b l ≡ first b l ∷ []
-unfolding index_of index_after parts
+unfolding index_of parts
 one_part b [] h = refl
 one_part b (x ∷ l) h = step (eqb x b) refl (one_part b l)
   where
@@ -26,7 +25,7 @@ one_part b (x ∷ l) h = step (eqb x b) refl (one_part b l)
     step false e k = let z : index_of b (x ∷ l) ≡ suc (index_of b l) = simp e in simp (e, k (omega arith))
 
 more_parts : (b : ℕ) (l : List ℕ) → index_of b l < length l → parts b l ≡ first b l ∷ parts b (drop (suc (index_of b l)) l)
-unfolding index_of index_after parts
+unfolding index_of parts
 more_parts b [] h = let z : ⊥ = omega arith in absurd z
 more_parts b (x ∷ l) h = step (eqb x b) refl (more_parts b l)
   where
@@ -37,7 +36,7 @@ more_parts b (x ∷ l) h = step (eqb x b) refl (more_parts b l)
 
 -- a text has a first part
 pub some_part : (b : ℕ) (l : List ℕ) → parts b l ≡ first b l ∷ drop 1 (parts b l)
-unfolding index_of index_after parts
+unfolding index_of parts
 some_part b [] = refl
 some_part b (x ∷ l) = step (eqb x b) refl (some_part b l)
   where
@@ -86,3 +85,28 @@ module _ (a b : List ℕ) (i : ℕ) where
   pub same_end : length a ≤ i → length b ≤ i → same (drop i a) (drop i b) ≡ true
   unfolding same
   same_end ha hb = rw (drop_of_length-le a {i = i} ha, drop_of_length-le b {i = i} hb)
+
+-- FOUND
+
+module _ (b : ℕ) (l : List ℕ) (i : ℕ) where
+  pub index_here : i < length l → get_or l i 0 ≡ b → index_of b (drop i l) ≡ 0
+  unfolding index_of
+  index_here h e = rw (drop-cons l i 0 h) (simp (eq-eqb _ _ e))
+
+  pub index_next : i < length l → (get_or l i 0 ≡ b → ⊥) → i + index_of b (drop i l) ≡ i + 1 + index_of b (drop (i + 1) l)
+  unfolding index_of
+  index_next h n = rw (add-one, drop-cons l i 0 h) (simp (ne_eqb _ _ n) (omega arith))
+
+  pub index_end : length l ≤ i → index_of b (drop i l) ≡ 0
+  unfolding index_of
+  index_end h = rw (drop_of_length-le l {i = i} h)
+
+-- at most the length
+pub index_most : (b : ℕ) (l : List ℕ) → index_of b l ≤ length l
+unfolding index_of
+index_most b [] = omega arith
+index_most b (x ∷ l) = step (eqb x b) (index_most b l)
+  where
+    step : (t : Bool) → index_of b l ≤ length l → cond t 0 (suc (index_of b l)) ≤ suc (length l)
+    step true h = omega arith
+    step false h = omega arith

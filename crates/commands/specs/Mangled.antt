@@ -2,7 +2,6 @@
 use Rattle.std.specs.Prelude.{Bool, true, false, not, ◌&&◌, ◌||◌, cond, List, [], ◌∷◌, ℕ, ◌+◌, ◌/◌, eqb, leb, ltb, length, get_or}
 use Rattle.commands.specs.declared.buffers.Lengths.{Lengths}
 use Rattle.commands.specs.declared.numbers.Found.{Found}
-use Rattle.commands.specs.declared.numbers.Found.TheVariants as Found
 use Rattle.commands.specs.declared.lines.Parsed.{Parsed}
 use Rattle.commands.specs.declared.lines.Parsed.TheVariants.{Mangled, Taken}
 use Rattle.commands.specs.Texts.{bytes, same}

@@ -11,6 +11,11 @@ bytes_from (suc n) i s = code (char_at s i) ∷ bytes_from n (suc i) s
 abbrev pub bytes : String → List ℕ
 bytes s = bytes_from (len s) 0 s
 
+-- the place of the first byte b: the length where there is none
+unfoldable pub index_of : ℕ → List ℕ → ℕ
+index_of b [] = 0
+index_of b (x ∷ l) = cond (eqb x b) 0 (suc (index_of b l))
+
 -- a byte in front of the first part
 abbrev pub in_front : ℕ → List (List ℕ) → List (List ℕ)
 in_front x [] = (x ∷ []) ∷ []

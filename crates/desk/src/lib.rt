@@ -47,6 +47,7 @@ pub fn fresh() -> Desk
 
 // A command, and the desk after it.
 pub fn carry_out(
+    rt: &impl Print,
     c: Command,
     line: &[u8],
     d: Desk,
@@ -62,21 +63,21 @@ pub fn carry_out(
     let run = d.run;
     let l = d.lengths;
     if c.kind == kinds::RESET {
-        say::ok();
+        say::ok(rt);
         return fresh();
     }
     if c.kind <= kinds::TEXT {
-        after.lengths = desk_buffers::carry_out(c, line, l, table, work, file, text);
+        after.lengths = desk_buffers::carry_out(rt, c, line, l, table, work, file, text);
         return after;
     }
     if c.kind <= kinds::TEST_SET {
-        after.set = set_commands::carry_out(c, line, set, l.text, text);
+        after.set = set_commands::carry_out(rt, c, line, set, l.text, text);
         return after;
     }
     if c.kind <= kinds::PRINT {
-        after.lengths = table_commands::carry_out(c, set, l, table, work, file, text);
+        after.lengths = table_commands::carry_out(rt, c, set, l, table, work, file, text);
         return after;
     }
-    after.run = run_commands::carry_out(c, set, run, l.table, table);
+    after.run = run_commands::carry_out(rt, c, set, run, l.table, table);
     after
 }

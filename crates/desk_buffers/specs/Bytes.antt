@@ -1,7 +1,11 @@
 -- Bytes of a buffer: filled, put in, and summed.
-use Rattle.std.specs.Prelude.{ℕ, zero, suc, ◌+◌, ◌*◌, ◌%◌, cond, List, [], ◌∷◌, length, take, drop, nat_le, slice_set}
+use Rattle.std.specs.Prelude.{◌≡◌, ℕ, zero, suc, ◌+◌, ◌*◌, ◌%◌, ◌≤◌, cond, List, [], ◌∷◌, length, take, drop, nat_le, slice_set}
 use Rattle.std.proofs.lemmas.List.Edits.{sets}
 use Rattle.commands.specs.Words.{byte_at}
+
+-- a text has so many first bytes
+abbrev pub IsPrefixLen : ℕ → List ℕ → Type 0
+IsPrefixLen n xs = (n ≤ length xs) × (n ≡ length (take n xs))
 
 -- the k bytes from place i on become v; a place beyond the buffer has no byte
 unfoldable pub filled : ℕ → ℕ → ℕ → List ℕ → List ℕ

@@ -1,7 +1,6 @@
 // Bytes of one buffer: filled, put in, and summed.
 ghost use Rattle.std.specs.Prelude.{◌≡◌, ◌+◌, ◌-◌, ◌%◌, ◌<◌, min, length, drop, slice_set};
-ghost use Rattle.io.specs.Counts.{IsPrefixLen};
-ghost use Rattle.desk_buffers.specs.Bytes.{filled, put_at, said, modulus, adler_of, part_of};
+ghost use Rattle.desk_buffers.specs.Bytes.{IsPrefixLen, filled, put_at, said, modulus, adler_of, part_of};
 
 use commands::hexadecimal;
 

@@ -13,59 +13,60 @@ use commands::lines::Command;
 use commands::{buffers, kinds};
 
 // So many bytes from a place on.
-fn show(buf: &[u8], from: u32, count: u32) {
-    say::say(b"bytes ");
-    say::bytes(bytes::part(buf, from, count));
-    say::say(b"\n");
+fn show(rt: &impl Print, buf: &[u8], from: u32, count: u32) {
+    say::say(rt, b"bytes ");
+    say::bytes(rt, bytes::part(buf, from, count));
+    say::say(rt, b"\n");
 }
 
-fn sum(n: u32, buf: &[u8]) {
-    say::number(b"sum ", n as u64);
-    say::last(b" ", bytes::adler(buf) as u64);
+fn sum(rt: &impl Print, n: u32, buf: &[u8]) {
+    say::number(rt, b"sum ", n as u64);
+    say::last(rt, b" ", bytes::adler(buf) as u64);
 }
 
 // A command on one buffer of n bytes, and its new length.
-fn on_buffer(c: Command, n: u32, buf: &mut [u8]) -> u32
+fn on_buffer(rt: &impl Print, c: Command, n: u32, buf: &mut [u8]) -> u32
     ensures value { result ≡ length_after c.kind c.values n }
     ensures buf_after { buf.new ≡ bytes_after c.kind c.values n buf.old }
 {
     let vs = c.values;
     if c.kind == kinds::FILL {
         bytes::fill(buf, 0, vs.second as usize, bytes::byte(vs.third));
-        say::ok();
+        say::ok(rt);
         return vs.second;
     }
     if c.kind == kinds::CUT {
         bytes::fill(buf, n as usize, vs.second as usize, 0);
-        say::ok();
+        say::ok(rt);
         return vs.second;
     }
     if c.kind == kinds::POKE {
         bytes::poke(buf, vs.second as usize, bytes::byte(vs.third));
-        say::ok();
+        say::ok(rt);
         return n;
     }
     let end = bytes::within(n, buf);
     if c.kind == kinds::SHOW {
-        show(&buf[..end], vs.second, vs.third);
+        show(rt, &buf[..end], vs.second, vs.third);
         return n;
     }
-    sum(n, &buf[..end]);
+    sum(rt, n, &buf[..end]);
     n
 }
 
 // The bytes of the line go behind those of the text, whose new length is answered.
-fn add_text(count: u32, line: &[u8], n: u32, text: &mut [u8]) -> u32
+fn add_text(rt: &impl Print, count: u32, line: &[u8], n: u32, text: &mut [u8]) -> u32
     ensures value { result ≡ (n + count) % 2 ^ 32 }
     ensures text_after { text.new ≡ put_at n (said (drop 5 line.now) count 0) text.old }
 {
     bytes::add(bytes::behind(line), count, text, n);
-    say::ok();
+    say::ok(rt);
     std::num::wrapping_add_u32(n, count)
 }
 
 // A command on a buffer, and the lengths after it.
 pub fn carry_out(
+    rt: &impl Print,
     c: Command,
     line: &[u8],
     l: Lengths,
@@ -80,21 +81,21 @@ pub fn carry_out(
     let buffer = vs.first;
     let mut after = l;
     if c.kind == kinds::TEXT {
-        after.text = add_text(vs.first, line, l.text, text);
+        after.text = add_text(rt, vs.first, line, l.text, text);
         return after;
     }
     if buffer == buffers::TABLE {
-        after.table = on_buffer(c, l.table, table);
+        after.table = on_buffer(rt, c, l.table, table);
         return after;
     }
     if buffer == buffers::WORK {
-        after.work = on_buffer(c, l.work, work);
+        after.work = on_buffer(rt, c, l.work, work);
         return after;
     }
     if buffer == buffers::FILE {
-        after.file = on_buffer(c, l.file, file);
+        after.file = on_buffer(rt, c, l.file, file);
         return after;
     }
-    after.text = on_buffer(c, l.text, text);
+    after.text = on_buffer(rt, c, l.text, text);
     after
 }

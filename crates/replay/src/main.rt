@@ -9,7 +9,7 @@ use commands::lines::Parsed;
 use commands::{buffers, lines};
 use desk::Desk;
 use desk_buffers::{bytes, say};
-use libc::STDIN_FILENO;
+use std::io::Read;
 
 // Of a line that is too long, one byte more than a line may have is kept.
 const KEPT: u32 = lines::LONGEST as u32 + 1;
@@ -38,6 +38,7 @@ fn begun() -> Log
 
 // A line: mangled, it is named and nothing is touched.
 fn answer(
+    rt: &impl Print,
     line: &[u8],
     number: u64,
     d: Desk,
@@ -52,15 +53,16 @@ fn answer(
     let parsed = lines::parse(line, l);
     match parsed {
         Parsed::Mangled => {
-            say::mangled(number);
+            say::mangled(rt, number);
             d
         }
-        Parsed::Taken(c) => desk::carry_out(c, line, d, table, work, file, text),
+        Parsed::Taken(c) => desk::carry_out(rt, c, line, d, table, work, file, text),
     }
 }
 
 // The line's end.
 fn end_line(
+    rt: &impl Print,
     g: Log,
     line: &[u8],
     table: &mut [u8],
@@ -73,7 +75,7 @@ fn end_line(
     let number = std::num::wrapping_add_u64(g.lines, 1);
     let d = g.desk;
     let used = bytes::within(g.used, line);
-    let after = answer(&line[..used], number, d, table, work, file, text);
+    let after = answer(rt, &line[..used], number, d, table, work, file, text);
     Log {
         desk: after,
         used: 0,
@@ -84,6 +86,7 @@ fn end_line(
 
 // A byte of the log.
 fn take_byte(
+    rt: &impl Print,
     b: u8,
     g: Log,
     line: &mut [u8],
@@ -95,7 +98,7 @@ fn take_byte(
     ensures { logged_of result line.new table.new work.new file.new text.new ≡ byte_after b (logged_of g line.old table.old work.old file.old text.old) }
 {
     if b == b'\n' {
-        return end_line(g, line, table, work, file, text);
+        return end_line(rt, g, line, table, work, file, text);
     }
     let mut next = g;
     if g.used < KEPT {
@@ -107,6 +110,7 @@ fn take_byte(
 
 // A piece of the log.
 fn take_piece(
+    rt: &impl Print,
     piece: &[u8],
     g: Log,
     line: &mut [u8],
@@ -120,14 +124,16 @@ fn take_piece(
     let mut next = g;
     let mut i = 0;
     while i < piece.len() {
-        next = take_byte(piece[i], next, line, table, work, file, text);
+        next = take_byte(rt, piece[i], next, line, table, work, file, text);
         i += 1;
     }
     next
 }
 
-// One piece of standard input: an empty piece ends the log.
-fn take_some(
+// One piece of standard input: an empty piece ends the log, and so does a read that fails.
+fn take_some<R: Read>(
+    rt: &impl Print,
+    input: &mut R,
     g: Log,
     line: &mut [u8],
     table: &mut [u8],
@@ -135,16 +141,20 @@ fn take_some(
     file: &mut [u8],
     text: &mut [u8],
 ) -> Log {
-    let mut piece = io::large_buffer();
-    let got = libc::read(STDIN_FILENO, &mut piece);
-    let n = io::count(got, &piece);
-    let mut next = take_piece(&piece[..n], g, line, table, work, file, text);
+    let mut piece = [0u8; 65536];
+    let n = match input.read(&mut piece) {
+        Ok(n) => n,
+        Err(_) => 0,
+    };
+    let mut next = take_piece(rt, &piece[..n], g, line, table, work, file, text);
     next.ended = n == 0;
     next
 }
 
 // Piece by piece, to the end: the turns are counted down from a number that no log uses up.
-fn read_log(
+fn read_log<R: Read>(
+    rt: &impl Print,
+    input: &mut R,
     line: &mut [u8],
     table: &mut [u8],
     work: &mut [u8],
@@ -154,7 +164,7 @@ fn read_log(
     let mut g = begun();
     let mut turns = u64::MAX;
     while turns > 0 {
-        g = take_some(g, line, table, work, file, text);
+        g = take_some(rt, input, g, line, table, work, file, text);
         if g.ended {
             return g;
         }
@@ -163,15 +173,18 @@ fn read_log(
     g
 }
 
-fn main() {
+fn main(rt: HostRuntime) {
+    let mut input = rt.stdin();
     let mut line = [0u8; KEPT as usize];
     let mut table = [0u8; buffers::TABLE_MOST as usize];
     let mut work = [0u8; buffers::TABLE_MOST as usize];
     let mut file = [0u8; buffers::FILE_MOST as usize];
     let mut text = [0u8; buffers::TEXT_MOST as usize];
-    let g = read_log(&mut line, &mut table, &mut work, &mut file, &mut text);
+    let g = read_log(
+        &rt, &mut input, &mut line, &mut table, &mut work, &mut file, &mut text,
+    );
     // Bytes after the last LF are a line too.
     if 0 < g.used {
-        end_line(g, &line, &mut table, &mut work, &mut file, &mut text);
+        end_line(&rt, g, &line, &mut table, &mut work, &mut file, &mut text);
     }
 }

@@ -1,0 +1,6 @@
+-- A desk with nothing on it.
+use Rattle.std.proofs.Common.{rules}
+use Rattle.replay.proofs.begun.Goals as goal
+
+pub returns : goal.returns
+returns c = rw c.fresh-desk.ensures
