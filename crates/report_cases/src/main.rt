@@ -1,7 +1,7 @@
 // Worked reports: what the call answers, how many bytes of output, table and work have changed, and the report.
 #![tactic(auto)]
 
-ghost use Rattle.std.specs.Prelude.{◌≤◌, length};
+ghost use Rattle.std.specs.Prelude.{◌≡◌, ◌≤◌, length, take};
 
 use cases::lines::{put, put_number, put_refusal};
 use reporter::Reported;
@@ -17,7 +17,8 @@ fn put_answer(rt: &impl Print, r: Reported) {
 
 // Every buffer is dots before a call: how many bytes it has up to the last that is none.
 fn changed(buf: &[u8]) -> usize
-    ensures { result ≤ length buf.now }
+    ensures in_bounds { result ≤ length buf.now }
+    ensures prefix { result ≡ length (take result buf.now) }
 {
     let mut n = buf.len();
     while 0 < n {
