@@ -1,5 +1,5 @@
 -- Mangled, or carried out.
-use Rattle.std.proofs.Common.{sym, ◌∙◌, rules}
+use Rattle.std.proofs.Common.{sym, ◌∙◌}
 use Rattle.replay.proofs.LineLaws.{line_mangled, line_taken}
 use Rattle.replay.proofs.answer.Goals as goal
 

@@ -1,5 +1,4 @@
 -- A desk with nothing on it.
-use Rattle.std.proofs.Common.{rules}
 use Rattle.replay.proofs.begun.Goals as goal
 
 pub returns : goal.returns

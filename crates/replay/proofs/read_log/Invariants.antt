@@ -1,6 +1,5 @@
 -- Piece by piece; the buffers keep their lengths.
 use Rattle.replay.proofs.Kept.{SameLengths}
-use Rattle.std.proofs.Common.{rules}
 use Rattle.replay.proofs.read_log.Given as goal
 
 abbrev pub invariant-loop-turns : goal.invariant-loop-turns

@@ -1,5 +1,5 @@
 -- An LF, or a byte of the line.
-use Rattle.std.proofs.Common.{rules, le-ltb, lt-ltb, eq-eqb, ne_eqb}
+use Rattle.std.proofs.Common.{le-ltb, lt-ltb, eq-eqb, ne_eqb}
 use Rattle.replay.specs.Log.{byte_after}
 use Rattle.replay.proofs.take_byte.Goals as goal
 

@@ -1,8 +1,6 @@
 -- A byte at a time; the buffers keep their lengths.
-use Rattle.replay.proofs.Kept.{SameLengths}
-use Rattle.replay.specs.Log.{logged_of, piece_after}
 use Rattle.replay.proofs.LineLaws.{piece_next, piece_end}
-use Rattle.std.proofs.Common.{◌≡◌, ◌-◌, ◌≤◌, length, drop, sym, refl, ◌∙◌, arith, rules}
+use Rattle.std.proofs.Common.{sym, refl, ◌∙◌, arith, rules}
 use Rattle.replay.proofs.take_piece.Goals as goal
 
 pub loop-i-init : goal.loop-i-init

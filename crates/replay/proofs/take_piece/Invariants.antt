@@ -1,8 +1,7 @@
 -- A byte at a time; the buffers keep their lengths.
 use Rattle.replay.proofs.Kept.{SameLengths}
 use Rattle.replay.specs.Log.{logged_of, piece_after}
-use Rattle.replay.proofs.LineLaws.{piece_next, piece_end}
-use Rattle.std.proofs.Common.{◌≡◌, ◌-◌, ◌≤◌, length, drop, sym, refl, ◌∙◌, arith, rules}
+use Rattle.std.proofs.Common.{◌≡◌, ◌-◌, ◌≤◌, length, drop}
 use Rattle.replay.proofs.take_piece.Given as goal
 
 abbrev pub invariant-loop-i : goal.invariant-loop-i

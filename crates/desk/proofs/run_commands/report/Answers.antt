@@ -1,6 +1,0 @@
--- What the call returns.
-use mathlib.Core.Path.{ap}
-use Rattle.desk.proofs.run_commands.report.Goals as goal
-
-pub returns : goal.returns
-returns g c = ap (λ x. x.run) c.report-reported.ensures
