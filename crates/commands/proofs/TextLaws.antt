@@ -1,5 +1,5 @@
 -- Laws of texts: a text from a place on, split at a byte, and compared.
-use mathlib.Core.Bool.{Bool, true, false, ◌&&◌, cond}
+use mathlib.Core.Bool.{Bool, true, false, ◌&&◌}
 use mathlib.Core.List.{List, [], ◌∷◌}
 use mathlib.Core.Path.{◌≡◌, refl, ap}
 use Prim.Native.Nat.{ℕ, suc, ◌+◌, ◌-◌, ◌<◌, ◌≤◌}
@@ -100,13 +100,3 @@ module _ (b : ℕ) (l : List ℕ) (i : ℕ) where
   pub index_end : length l ≤ i → index_of b (drop i l) ≡ 0
   unfolding index_of
   index_end h = rw (drop_of_length-le l {i = i} h)
-
--- at most the length
-pub index_most : (b : ℕ) (l : List ℕ) → index_of b l ≤ length l
-unfolding index_of
-index_most b [] = omega arith
-index_most b (x ∷ l) = step (eqb x b) (index_most b l)
-  where
-    step : (t : Bool) → index_of b l ≤ length l → cond t 0 (suc (index_of b l)) ≤ suc (length l)
-    step true h = omega arith
-    step false h = omega arith
