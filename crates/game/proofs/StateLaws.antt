@@ -149,7 +149,10 @@ module _ (s : Set) where
   pub index_lt : (xs : List TaskState) (k : ℕ) → Ranged xs k → index_to s xs k < states_to s k
   unfolding index_to states_to
   index_lt xs zero r = omega arith
-  index_lt xs (suc k) r = digits_lt (local_lt (task_at s k) (state_at xs k) (r k (omega arith))) (index_lt xs k (λ j h. r j (omega arith)))
+  index_lt xs (suc k) r =
+      let l = local_lt (task_at s k) (state_at xs k) (r k (omega arith)) in
+      let i = index_lt xs k (λ j h. r j (omega arith)) in
+      omega (arith, digits_lt l i, digits_lt i l)
 
   -- from a whole state to its index and back
   pub index_local : Valid s → (xs : List TaskState) (k : ℕ) → k ≤ s.count → Ranged xs k

@@ -137,7 +137,7 @@ module _ (s : Set) (r : Run) where
 few_awaited : (s : Set) (r : Run) (a : Awaited) → T (awaited_fits s r a) → r.substitutions ≤ r.ticks + 1
 few_awaited s r Nothing t = omega (arith, leb→le r.substitutions r.ticks t)
 few_awaited s r (Choice c) t =
-    leb→le r.substitutions (r.ticks + 1) (and_left (leb r.substitutions (r.ticks + 1)) _ (and_right (ltb r.ticks tick_limit) _ t))
+    leb→le r.substitutions (r.ticks + 1) (and_left (leb r.substitutions (r.ticks + 1)) _ (and_right _ _ t))
 
 open_awaited : (s : Set) (r : Run) (a : Awaited) (c : ℕ) → a ≡ Choice c → T (awaited_fits s r a) → r.ticks < tick_limit
 open_awaited s r Nothing c e t = let z : ◌≡◌ {A = ℕ} 0 1 = cc in absurd (omega arith)
