@@ -4,7 +4,7 @@
 
 mod say;
 
-ghost use Rattle.std.specs.Prelude.{◌≤◌, ◌<◌, length};
+ghost use Rattle.std.specs.Prelude.{◌≡◌, ◌≢◌, ℕ, ◌≤◌, ◌<◌, length, slice_index};
 
 use cases::lines::{put, put_number};
 use say::{say_answer, say_set, say_wrote};
@@ -47,11 +47,15 @@ fn find(cases: &[u8], i: usize, b: u8) -> usize
     requires { i ≤ length cases.now }
     ensures from { i ≤ result }
     ensures within { result ≤ length cases.now }
+    ensures before { (k : ℕ) → i ≤ k → k < result → slice_index cases.now k ≢ b }
+    ensures found { result < length cases.now → slice_index cases.now result ≡ b }
 {
-    match cases[i..].iter().position(|x| *x == b) {
-        Some(k) => i + k,
-        None => cases.len(),
+    for k in i..cases.len() {
+        if cases[k] == b {
+            return k;
+        }
     }
+    cases.len()
 }
 
 // The case that begins at a place, and the place of the next.

@@ -61,12 +61,12 @@ module _ (file : List ℕ) (s u : Set) (m : Sized s) (n : Sized u) (o : Opening 
       beyond : s.count ≤ j → task_at s j ≡ task_at u j
       beyond l = blank_is (task_at s j) ((passed_valid s o.set).blanks j l h) ∙ sym (blank_is (task_at u j) ((passed_valid u q.set).blanks j (omega (arith, count_eq)) h))
 
-  sets-eq : s ≡ u
-  sets-eq = set_eq s u name_eq count_eq (ext_get_or no_task s.tasks u.tasks (m.tasks ∙ sym n.tasks) (λ i h. record_eq i (omega (arith, m.tasks))))
+  sets_equal : s ≡ u
+  sets_equal = set_eq s u name_eq count_eq (ext_get_or no_task s.tasks u.tasks (m.tasks ∙ sym n.tasks) (λ i h. record_eq i (omega (arith, m.tasks))))
 
 -- a file that opens for two sets means that the sets are equal
 pub one_set : (file : List ℕ) (s u : Set) → Sized s → Sized u → Opens s file → Opens u file → s ≡ u
-one_set file s u m n o q = sets-eq file s u m n (opening s file (said_opens s file o)) (opening u file (said_opens u file q))
+one_set file s u m n o q = sets_equal file s u m n (opening s file (said_opens s file o)) (opening u file (said_opens u file q))
 
 -- the file of a set whose name first differs from this set's in character k + 1 is refused with 12 at 5 + k
 module _ (s u : Set) (m : length s.name ≡ 16) (n : length u.name ≡ 16) (p : Passed s) (q : Passed u) (t : List ℕ) (ht : states_of s ≤ length t) where

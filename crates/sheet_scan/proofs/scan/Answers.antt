@@ -16,8 +16,8 @@ abbrev so_far : List ℕ → List Task → State → Set
 so_far name tasks s = record { name = name; count = s.count; tasks = tasks }
 
 -- a task that ends is put after those before it
-tasks-added : (c : Joined-ends_task) → let l = c.loop-i in c.if-ends_task.tasks ≡ tasks_after l.tasks l.s c.step-n.result
-tasks-added c =
+tasks_added : (c : Joined-ends_task) → let l = c.loop-i in c.if-ends_task.tasks ≡ tasks_after l.tasks l.s c.step-n.result
+tasks_added c =
     let l = c.loop-i in
     let e = c.ends_task in
     elim c.if-ends_task.branch [
@@ -46,7 +46,7 @@ loop-i-preserved c =
     let a = c.args in
     let n = c.step-n.result in
     let k : so_far c.add_byte.new.name c.if-ends_task.tasks n ≡ set_after (so_far l.name l.tasks l.s) l.s n (get_or a.text.now l.i 0)
-    = λ j. record { name = c.add_byte.ensures j; count = n.count; tasks = tasks-added c j } in
+    = λ j. record { name = c.add_byte.ensures j; count = n.count; tasks = tasks_added c j } in
     subst⁻¹ (λ x. Past a.text.now a.at n x (l.i + 1)) k
     (past_more a.text.now a.at l.s (so_far l.name l.tasks l.s) l.i l.invariant c.loop-i-test.true n c.step-n.ensures c.if-n-eq-FAULT.false)
 

@@ -10,9 +10,9 @@ use Rattle.sheet_scan.proofs.steps.in_name.Goals as goal
 use Rattle.sheet_scan.proofs.steps.in_name.Goals.{Else-name_byte}
 
 -- what is left where the byte is no character
-past-character : (c : Else-name_byte) → let a = c.args in name_of a.s a.b ≡ cond (ltb 0 a.s.at && eqb a.b 10) (moved a.s at_line 0) (blank_of at_fault)
+past_character : (c : Else-name_byte) → let a = c.args in name_of a.s a.b ≡ cond (ltb 0 a.s.at && eqb a.b 10) (moved a.s at_line 0) (blank_of at_fault)
 unfolding name_of
-past-character c = rw (sym c.name_byte.ensures ∙ c.if-name_byte.false) refl
+past_character c = rw (sym c.name_byte.ensures ∙ c.if-name_byte.false) refl
 
 pub returns-then-s-lt16 : goal.returns-then-s-lt16
 unfolding name_of
@@ -25,12 +25,12 @@ returns-then-name_byte c =
     rw (c.blank.ensures, sym c.name_byte.ensures ∙ c.if-name_byte.true, le-ltb _ 16 c.if-s-lt16.false) refl
 
 pub returns-then-s-eq0 : goal.returns-then-s-eq0
-returns-then-s-eq0 c = rw (c.blank-then-s-eq0.ensures, past-character (goal.at.returns-then-s-eq0 c).Else-name_byte, c.if-s-eq0.true) refl
+returns-then-s-eq0 c = rw (c.blank-then-s-eq0.ensures, past_character (goal.at.returns-then-s-eq0 c).Else-name_byte, c.if-s-eq0.true) refl
 
 pub returns-then-b-eq10 : goal.returns-then-b-eq10
 returns-then-b-eq10 c =
-    rw (c.move_to-then-b-eq10.ensures, past-character (goal.at.returns-then-b-eq10 c).Else-name_byte, lt-ltb 0 _ (some _ c.if-s-eq0.false), eq-eqb _ 10 c.if-b-eq10.true) refl
+    rw (c.move_to-then-b-eq10.ensures, past_character (goal.at.returns-then-b-eq10 c).Else-name_byte, lt-ltb 0 _ (some _ c.if-s-eq0.false), eq-eqb _ 10 c.if-b-eq10.true) refl
 
 pub returns : goal.returns
 returns c =
-    rw (c.blank-2.ensures, past-character (goal.at.returns c).Else-name_byte, lt-ltb 0 _ (some _ c.if-s-eq0.false), ne_eqb _ 10 c.if-b-eq10.false) refl
+    rw (c.blank-2.ensures, past_character (goal.at.returns c).Else-name_byte, lt-ltb 0 _ (some _ c.if-s-eq0.false), ne_eqb _ 10 c.if-b-eq10.false) refl
