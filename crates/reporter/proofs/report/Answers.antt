@@ -6,7 +6,7 @@ use Rattle.reporter.proofs.report.Goals as goal
 pub returns-then-output-lt-ROOM : goal.returns-then-output-lt-ROOM
 returns-then-output-lt-ROOM c =
     let a = c.args in
-    report_short a.sheet.now a.table.now a.work.now a.output.now c.if-output-lt-ROOM.true
+    report_short a.sheet.now a.table.now a.work.now a.output.now (omega (arith, c.if-output-lt-ROOM.true))
 
 pub overflow_cast-result-2 : goal.overflow_cast-result-2
 overflow_cast-result-2 c =
@@ -16,4 +16,4 @@ overflow_cast-result-2 c =
 pub returns : goal.returns
 returns c =
     let a = c.args in
-    report_fits a.sheet.now a.table.now a.work.now a.output.now _ _ _ _ c.if-output-lt-ROOM.false c.put_sheet-n.ensures
+    report_fits a.sheet.now a.table.now a.work.now a.output.now _ _ _ _ (omega (arith, c.if-output-lt-ROOM.false)) c.put_sheet-n.ensures

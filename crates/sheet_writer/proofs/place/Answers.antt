@@ -22,7 +22,7 @@ first c = puts_take c.put_sheet-n.ensures (omega (arith, short c))
 pub returns-then-buf-n : goal.returns-then-buf-n
 returns-then-buf-n c =
     let a = c.args in
-    placed_short (text_of a.set) a.buf.now c.put_sheet-n.result (size (goal.at.returns-then-buf-n c).After-put_sheet-n) c.if-buf-n.true
+    placed_short (text_of a.set) a.buf.now c.put_sheet-n.result (size (goal.at.returns-then-buf-n c).After-put_sheet-n) (omega (arith, c.if-buf-n.true))
 
 pub returns : goal.returns
 returns c =
@@ -30,5 +30,5 @@ returns c =
     let n = c.put_sheet-n.result in
     let p = (goal.at.returns c).After-put_sheet-n in
     let w = puts_as c.put_word.ensures (first p) in
-    placed_fits (text_of a.set) a.buf.now n (size p) _ c.if-buf-n.false
-    ((puts_whole w (omega (arith, size p, c.if-buf-n.false))).1 ∙ ap (λ k. text_of a.set ++ drop k a.buf.now) (sym (size p)))
+    placed_fits (text_of a.set) a.buf.now n (size p) _ (omega (arith, c.if-buf-n.false, size p, short p))
+    ((puts_whole w (omega (arith, size p, short p, c.if-buf-n.false))).1 ∙ ap (λ k. text_of a.set ++ drop k a.buf.now) (sym (size p)))

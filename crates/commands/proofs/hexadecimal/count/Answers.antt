@@ -17,4 +17,4 @@ pub returns-then-end-n : goal.returns-then-end-n
 returns-then-end-n c = sym (bytes_high _ _ _ c.if-end-n.true)
 
 pub returns : goal.returns
-returns c = sym (bytes_taken _ _ _ (sym c.is_hexadecimal.ensures ∙ c.if-not-is_hexadecimal.false) c.if-word-eq1.false c.if-n-lo.false c.if-end-n.false)
+returns c = sym (bytes_taken _ _ _ (sym c.is_hexadecimal.ensures ∙ c.if-not-is_hexadecimal.false) (λ e. c.if-word-eq1.false (omega (arith, e))) c.if-n-lo.false c.if-end-n.false)

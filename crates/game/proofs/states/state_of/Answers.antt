@@ -1,4 +1,5 @@
 -- Age and ticks given, by division.
+use Prim.Native.Nat.{◌%◌}
 use mathlib.Core.Path.{sym, ap}
 use Prim.Native.Nat.{ℕ, ◌+◌, ◌/◌}
 use native.Mathlib.Omega.{arith}
@@ -22,8 +23,8 @@ overflow_cast-result c = omega (arith, longest_le c.args.t.runs)
 
 pub returns-then-g-cmax : goal.returns-then-g-cmax
 unfolding state_of
-returns-then-g-cmax c = simp (sym c.longest-cmax.ensures, lt-ltb _ _ c.if-g-cmax.true)
+returns-then-g-cmax c = simp (sym c.longest-cmax.ensures, lt-ltb (c.args.local % (c.longest-cmax.result + 1)) c.longest-cmax.result (omega (arith, c.if-g-cmax.true)))
 
 pub returns : goal.returns
 unfolding state_of
-returns c = simp (sym c.longest-cmax.ensures, le-ltb _ _ c.if-g-cmax.false)
+returns c = simp (sym c.longest-cmax.ensures, le-ltb (c.args.local % (c.longest-cmax.result + 1)) c.longest-cmax.result (omega (arith, c.if-g-cmax.false)))

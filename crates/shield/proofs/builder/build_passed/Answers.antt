@@ -23,9 +23,9 @@ bounds-table-0 c =
 
 pub returns-in-Safe : goal.returns-in-Safe
 returns-in-Safe c =
-    built_safe c.args.s c.requires.0 c.args.table.now c.args.work.now c.args.n c.requires.1 c.if-table-size.false c.if-work-size.false c.run_rounds-settled.result c.run_rounds-settled.new.table c.run_rounds-settled.new.work c.run_rounds-settled.ensures _ _ c.fill.new.buf c.in-Safe.is c.fill.ensures
+    built_safe c.args.s c.requires.0 c.args.table.now c.args.work.now c.args.n c.requires.1 c.if-table-size.false (omega (arith, c.if-work-size.false)) c.run_rounds-settled.result c.run_rounds-settled.new.table c.run_rounds-settled.new.work c.run_rounds-settled.ensures _ _ c.fill.new.buf c.in-Safe.is c.fill.ensures
 
 pub returns-in-Falls : goal.returns-in-Falls
 returns-in-Falls c =
     let z = c.fill-in-Falls in
-    built_falls c.args.s c.requires.0 c.args.table.now c.args.work.now c.args.n c.requires.1 c.if-table-size.false c.if-work-size.false c.run_rounds-settled.result c.run_rounds-settled.new.table c.run_rounds-settled.new.work c.run_rounds-settled.ensures _ z.new.buf c.fill.new.buf c.in-Falls.is z.ensures c.fill.ensures
+    built_falls c.args.s c.requires.0 c.args.table.now c.args.work.now c.args.n c.requires.1 c.if-table-size.false (omega (arith, c.if-work-size.false)) c.run_rounds-settled.result c.run_rounds-settled.new.table c.run_rounds-settled.new.work c.run_rounds-settled.ensures _ z.new.buf c.fill.new.buf c.in-Falls.is z.ensures c.fill.ensures

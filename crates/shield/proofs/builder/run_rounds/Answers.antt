@@ -100,7 +100,8 @@ count_live-now-requires c = let d = (goal.at.count_live-now-requires c).After-ro
 pub returns-then-now-left : goal.returns-then-now-left
 returns-then-now-left c = let d = (goal.at.returns-then-now-left c).After-round in
     let l = c.loop-table in
-    let q = sym (counted d _ c.count_live-now.ensures) ∙ c.if-now-left.true ∙ was d in
+    let e : c.count_live-now.result ≡ l.left = omega (arith, c.if-now-left.true) in
+    let q = sym (counted d _ c.count_live-now.ensures) ∙ e ∙ was d in
     let w = settled_safe c.args.s c.requires.0 l.rounds l.invariant.rounds l.invariant.start (same_count c.args.s l.rounds q) in
     let z = ended d _ w.1 in
     record { answer = ap (λ n. Safe n l.rounds) (was d) ∙ w.0; table = z.0; work = z.1 }

@@ -15,7 +15,7 @@ returns-then-choice-eq0 c = sym (ap (legal_in c.args.s c.args.d.now) c.if-choice
 
 pub returns-then-s-choice : goal.returns-then-s-choice
 unfolding legal_in
-returns-then-s-choice c = sym (legal_none c.args.s _ c.args.choice c.if-s-choice.true)
+returns-then-s-choice c = sym (legal_none c.args.s _ c.args.choice (omega (arith, c.if-s-choice.true)))
 
 pub bounds-s-choice : goal.bounds-s-choice
 bounds-s-choice c = omega (arith, (passed_valid c.args.s c.requires.passed).count.1)
@@ -30,4 +30,4 @@ state_of-x-requires c = let q = c.if-choice-eq0.false in
 pub returns : goal.returns
 unfolding legal_in
 returns c = let a = c.args in
-    c.is_runnable.ensures ∙ ap (runnable (task_at a.s (a.choice - 1))) c.state_of-x.ensures ∙ sym (legal_task a.s _ a.choice c.if-choice-eq0.false c.if-s-choice.false)
+    c.is_runnable.ensures ∙ ap (runnable (task_at a.s (a.choice - 1))) c.state_of-x.ensures ∙ sym (legal_task a.s _ a.choice c.if-choice-eq0.false (omega (arith, c.if-s-choice.false)))

@@ -35,7 +35,7 @@ pub returns-then-at-end : goal.returns-then-at-end
 returns-then-at-end c = let s = c.args.s in
     let f = c.args.file.now in
     c.refused-then-at-end.ensures ∙ sym (open_header s f c.if-file-lt5.false (omega (arith, c.first_difference.ensures, c.if-first_difference-lt3.false)) (omega (arith, c.first_difference-2.ensures, c.if-first_difference-lt5.false))
-    c.bytes_present-end.result c.first_difference-at.result c.bytes_present-end.ensures c.first_difference-at.ensures c.if-at-end.true)
+    c.bytes_present-end.result c.first_difference-at.result c.bytes_present-end.ensures c.first_difference-at.ensures (omega (arith, c.if-at-end.true)))
 
 pub overflow_cast-length-then-file-length : goal.overflow_cast-length-then-file-length
 overflow_cast-length-then-file-length c = let s = c.args.s in

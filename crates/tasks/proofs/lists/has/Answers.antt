@@ -1,4 +1,5 @@
 -- A value is on the list where its bit is set.
+use native.Mathlib.Omega.{arith}
 use mathlib.Core.Path.{sym, ap}
 use Rattle.tasks.specs.Lists.{listed}
 use Rattle.tasks.proofs.ListLaws.{listed_at, listed_past}
@@ -9,7 +10,7 @@ unfolding listed
 returns-then-v-eq0 c = sym (ap (listed c.args.list) c.if-v-eq0.true)
 
 pub returns-then-v-gt16 : goal.returns-then-v-gt16
-returns-then-v-gt16 c = sym (listed_past _ _ c.if-v-gt16.true)
+returns-then-v-gt16 c = sym (listed_past c.args.list c.args.v (omega (arith, c.if-v-gt16.true)))
 
 pub returns : goal.returns
-returns c = listed_at _ _ c.if-v-eq0.false c.if-v-gt16.false
+returns c = listed_at c.args.list c.args.v c.if-v-eq0.false (omega (arith, c.if-v-gt16.false))

@@ -10,7 +10,7 @@ use Rattle.tasks.proofs.SetLaws.{characters_le, name_none, name_some, zeros_here
 use Rattle.tasks.proofs.sets.name_fits.Goals as goal
 
 pub returns-then-i-eq0 : goal.returns-then-i-eq0
-returns-then-i-eq0 c = sym (name_none _ (sym c.name_length-i.ensures ∙ c.if-i-eq0.true))
+returns-then-i-eq0 c = sym (name_none c.args.name (omega (arith, c.name_length-i.ensures, c.if-i-eq0.true)))
 
 pub loop-i-init : goal.loop-i-init
 loop-i-init c = let a = c.args.name in
