@@ -4,21 +4,17 @@
 
 use bench_input::{put, put_number, sum, wide};
 use game::states::{Job, TaskState};
-use guard::asks::{Asked, Chosen};
-use guard::reports::Reported;
-use guard::runs::{Awaited, Run};
+use guard::runs::{Answered, Run};
 use guard::{asks, reports, runs};
 use shield::builder;
 use tasks::lists;
 use tasks::sets::{Set, Task};
 
 // A number for an answer.
-fn of_asked(a: Asked) -> u32 {
-    let answer = a.answer;
-    let run = a.run;
-    match answer {
-        Chosen::Choice(c) => sum(run.substitutions, c as u32),
-        Chosen::Refused(f) => f.place,
+fn of_asked(a: Answered<u8>) -> u32 {
+    match a.answer {
+        Ok(c) => sum(a.run.substitutions, u32::from(c)),
+        Err(f) => f.place,
     }
 }
 
@@ -26,59 +22,41 @@ fn of_asked(a: Asked) -> u32 {
 fn of_run(r: Run, j: u16) -> u32 {
     let x = r.states[(j % 7) as usize];
     let n = r.counts[(j % 7) as usize];
-    sum(sum(r.ticks, x.age as u32), sum(n.arrived, n.finished))
-}
-
-fn of_reported(a: Reported, j: u16) -> u32 {
-    let run = a.run;
-    of_run(run, j)
+    sum(sum(r.ticks, u32::from(x.age)), sum(n.arrived, n.finished))
 }
 
 // Jobs finish and arrive as late as they can.
-fn arrives(t: Task, x: TaskState, bit: u8) -> u8 {
-    if x.age as u32 + 1 == lists::longest(t.gaps) {
-        bit
-    } else {
-        0
-    }
+fn arrives(t: Task, x: TaskState) -> bool {
+    u32::from(x.age) + 1 == lists::longest(t.gaps)
 }
 
 fn arrivals(s: Set, xs: [TaskState; 7]) -> u8 {
-    let low = arrives(s.tasks[0], xs[0], 1)
-        | arrives(s.tasks[1], xs[1], 2)
-        | arrives(s.tasks[2], xs[2], 4);
-    let high = arrives(s.tasks[3], xs[3], 8)
-        | arrives(s.tasks[4], xs[4], 16)
-        | arrives(s.tasks[5], xs[5], 32);
-    low | high | arrives(s.tasks[6], xs[6], 64)
+    let mut bits = 0;
+    for i in 0..7 {
+        if arrives(s.tasks[i], xs[i]) {
+            bits |= 1 << i;
+        }
+    }
+    bits
 }
 
 fn ends(t: Task, x: TaskState) -> bool {
-    let job = x.job;
-    match job {
+    match x.job {
         Job::Empty => false,
-        Job::InHand(g) => g as u32 + 1 == lists::longest(t.runs),
+        Job::InHand(g) => u32::from(g) + 1 == lists::longest(t.runs),
     }
 }
 
 fn finishes(s: Set, xs: [TaskState; 7], choice: u8) -> bool {
-    if choice == 0 {
+    if choice == 0 || 7 < choice {
         return false;
     }
-    if 7 < choice {
-        return false;
-    }
-    let k = choice as usize - 1;
+    let k = usize::from(choice) - 1;
     ends(s.tasks[k], xs[k])
 }
 
 fn finished(s: Set, r: Run) -> bool {
-    let xs = r.states;
-    let awaited = r.awaited;
-    match awaited {
-        Awaited::Nothing => false,
-        Awaited::Choice(c) => finishes(s, xs, c),
-    }
+    r.awaited.is_some_and(|c| finishes(s, r.states, c))
 }
 
 // All proposals in turn.
@@ -88,29 +66,25 @@ fn after(p: u8, count: u8) -> u8 {
 
 // So many asks with the same state.
 fn asks_more(s: Set, table: &[u8], r: Run, n: u16) -> u32 {
-    let mut total: u32 = 0;
+    let mut total = 0;
     let mut q = r;
-    let mut p: u8 = 0;
-    let mut j: u16 = 0;
-    while j < n {
-        q.reading = j as u32;
+    let mut p = 0;
+    for j in 0..n {
+        q.reading = u32::from(j);
         total = sum(total, of_asked(asks::ask(s, table, q, p)));
         p = after(p, s.count);
-        j += 1;
     }
     total
 }
 
 // So many reports that are taken.
 fn reports_more(s: Set, r: Run, end: bool, bits: u8, n: u16) -> u32 {
-    let mut total: u32 = 0;
+    let mut total = 0;
     let mut q = r;
-    let mut j: u16 = 0;
-    while j < n {
-        q.reading = j as u32;
-        let a = reports::report(s, q, j as u32 + 1, end, bits);
-        total = sum(total, of_reported(a, j));
-        j += 1;
+    for j in 0..n {
+        q.reading = u32::from(j);
+        let a = reports::report(s, q, q.reading + 1, end, bits);
+        total = sum(total, of_run(a.run, j));
     }
     total
 }
@@ -119,9 +93,8 @@ fn reports_more(s: Set, r: Run, end: bool, bits: u8, n: u16) -> u32 {
 fn tick(s: Set, table: &[u8], r: Run, asks: u16, reports: u16) -> Run {
     let n = asks_more(s, table, r, asks);
     let a = asks::ask(s, table, r, 0).run;
-    let xs = a.states;
     let end = finished(s, a);
-    let bits = arrivals(s, xs);
+    let bits = arrivals(s, a.states);
     let m = reports_more(s, a, end, bits, reports);
     let mut q = reports::report(s, a, sum(a.reading, 1), end, bits).run;
     q.reading = sum(q.reading, sum(n, m));
@@ -130,10 +103,8 @@ fn tick(s: Set, table: &[u8], r: Run, asks: u16, reports: u16) -> Run {
 
 fn ticks(s: Set, table: &[u8], n: u16, asks: u16, reports: u16) -> Run {
     let mut r = runs::start(s, 0).run;
-    let mut i: u16 = 0;
-    while i < n {
+    for _ in 0..n {
         r = tick(s, table, r, asks, reports);
-        i += 1;
     }
     r
 }
@@ -155,8 +126,8 @@ fn main(rt: HostRuntime) {
         wide(n[2], n[3]),
         wide(n[4], n[5]),
     );
-    put_number(&rt, b"ticks ", r.ticks as u64);
-    put_number(&rt, b" substitutions ", r.substitutions as u64);
-    put_number(&rt, b" sum ", r.reading as u64);
+    put_number(&rt, b"ticks ", r.ticks);
+    put_number(&rt, b" substitutions ", r.substitutions);
+    put_number(&rt, b" sum ", r.reading);
     put(&rt, b"\n");
 }

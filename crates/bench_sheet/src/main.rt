@@ -3,26 +3,22 @@
 #![tactic(auto)]
 
 use bench_input::{put, put_number, sum, wide};
-use sheet_reader::{ReadAnswer, SheetRead};
+use sheet_reader::SheetRead;
 use tasks::sets::Set;
 
 // One record of a set, another each time, and a character of its name.
 fn of_set(s: Set, i: u16) -> u32 {
     let t = s.tasks[(i % 7) as usize];
     let b = s.name[(i % 16) as usize];
-    let head = sum(s.count as u32, b as u32);
-    sum(
-        head,
-        sum(t.deadline as u32, sum(t.runs as u32, t.gaps as u32)),
-    )
+    let head = sum(u32::from(s.count), u32::from(b));
+    let lists = sum(u32::from(t.runs), u32::from(t.gaps));
+    sum(head, sum(u32::from(t.deadline), lists))
 }
 
 fn of_read(r: SheetRead, i: u16) -> u32 {
-    let set = r.set;
-    let answer = r.answer;
-    match answer {
-        ReadAnswer::Taken => of_set(set, i),
-        ReadAnswer::Refused(f) => sum(f.place, f.number as u32),
+    match r.answer {
+        Ok(()) => of_set(r.set, i),
+        Err(f) => sum(f.place, u32::from(f.number())),
     }
 }
 
@@ -34,21 +30,17 @@ fn touch(text: &mut [u8], i: u16) {
 }
 
 fn reads(text: &mut [u8], n: u16) -> u32 {
-    let mut total: u32 = 0;
-    let mut i: u16 = 0;
-    while i < n {
+    let mut total = 0;
+    for i in 0..n {
         touch(text, i);
         total = sum(total, of_read(sheet_reader::read_at(text, 0), i));
-        i += 1;
     }
     total
 }
 
 fn read_first(text: &mut [u8], bytes: u16, n: u16) -> u32 {
-    if (bytes as usize) < text.len() {
-        return reads(&mut text[0..bytes as usize], n);
-    }
-    reads(text, n)
+    let end = usize::from(bytes).min(text.len());
+    reads(&mut text[..end], n)
 }
 
 fn main(rt: HostRuntime) {
@@ -58,6 +50,6 @@ fn main(rt: HostRuntime) {
     reading::fill(&mut input, &mut b);
     reading::fill(&mut input, &mut text);
     let total = read_first(&mut text, wide(b[2], b[3]), wide(b[0], b[1]));
-    put_number(&rt, b"sum ", total as u64);
+    put_number(&rt, b"sum ", total);
     put(&rt, b"\n");
 }

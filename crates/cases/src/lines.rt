@@ -2,59 +2,55 @@
 ghost use Rattle.std.specs.Prelude.{◌≡◌};
 ghost use Rattle.cases.specs.Sums.{next_sum, sum_on};
 
-use std::io;
-use std::io::Write;
+pub use printing::{put, put_number};
+use std::fmt::Display;
 use tasks::refusals::Refusal;
 
-// A write that fails is passed over.
-pub fn put(rt: &impl Print, text: &[u8]) {
-    match io::writer(rt).write_all(text) {
-        Ok(()) => {}
-        Err(_) => {}
+// What a line is of: a call, and the case's label.
+pub fn put_label(rt: &impl Print, call: &[u8], label: &[u8]) {
+    put(rt, call);
+    put(rt, label);
+    put(rt, b":");
+}
+
+// Number and place, and no `Refusal`: any refusal's line can be printed, as `put_refused_line` promises.
+pub fn put_refusal(rt: &impl Print, number: u8, place: u32) {
+    put_number(rt, b" refused ", number);
+    put_number(rt, b" place ", place);
+}
+
+// A word for what is taken, or the refusal.
+pub fn put_taken(rt: &impl Print, word: &[u8], answer: Result<(), Refusal>) {
+    match answer {
+        Ok(()) => put(rt, word),
+        Err(f) => put_refusal(rt, f.number(), f.place),
     }
 }
 
-pub fn put_number(rt: &impl Print, text: &[u8], n: u64) {
-    put(rt, text);
-    match print!(rt; "{n}") {
-        Ok(()) => {}
-        Err(_) => {}
+// The number that is answered, after a word, or the refusal.
+pub fn put_answer<T: Copy + Display>(rt: &impl Print, word: &[u8], answer: Result<T, Refusal>) {
+    match answer {
+        Ok(n) => put_number(rt, word, n),
+        Err(f) => put_refusal(rt, f.number(), f.place),
     }
-}
-
-pub fn put_refusal(rt: &impl Print, f: Refusal) {
-    put_number(rt, b" refused ", f.number as u64);
-    put_number(rt, b" place ", f.place as u64);
-}
-
-fn put_byte(rt: &impl Print, b: u8) {
-    put_number(rt, b" ", b as u64);
 }
 
 // Every byte of a buffer.
 pub fn put_bytes(rt: &impl Print, buf: &[u8]) {
-    let mut i = 0;
-    while i < buf.len() {
-        put_byte(rt, buf[i]);
-        i += 1;
+    for b in buf {
+        put_number(rt, b" ", *b);
     }
 }
 
 fn next_sum(sum: u32, b: u8) -> u32
     ensures { result ≡ next_sum sum b }
 {
-    ((sum % 16777213) * 251 + b as u32) % 16777213
+    ((sum % 16777213) * 251 + u32::from(b)) % 16777213
 }
 
 // A number that stands for the bytes of a long buffer, in their order.
 pub fn checksum(buf: &[u8]) -> u32
     ensures { result ≡ sum_on 0 buf.now }
 {
-    let mut sum: u32 = 0;
-    let mut i = 0;
-    while i < buf.len() {
-        sum = next_sum(sum, buf[i]);
-        i += 1;
-    }
-    sum
+    buf.iter().fold(0, |sum, b| next_sum(sum, *b))
 }

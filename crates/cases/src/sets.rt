@@ -1,12 +1,12 @@
 // Tasks and sets of the worked cases.
-ghost use Rattle.std.specs.Prelude.{◌≡◌, [], ◌∷◌, replicate};
+ghost use Rattle.std.specs.Prelude.{◌≡◌, ◌≤◌, replicate};
 ghost use Rattle.tasks.specs.Sets.{no_task};
 ghost use Rattle.tasks.specs.Examples.{soft, hard, PAIR, EXAMPLE};
 ghost use Rattle.cases.specs.Sets.{task_of, records_of, case_of, renamed};
 
 use tasks::sets::{Set, Task};
 
-// A list of one value is named after it.
+// A list of one value is named after it. Names, and no function of the value: `V1 + V2` reads as the label does, 1,2.
 pub const V1: u16 = 1;
 
 pub const V2: u16 = 2;
@@ -33,13 +33,14 @@ pub fn task(kind: u8, deadline: u8, runs: u16, gaps: u16) -> Task
     ensures { result ≡ task_of kind deadline runs gaps }
 {
     Task {
-        kind: kind,
-        deadline: deadline,
-        runs: runs,
-        gaps: gaps,
+        kind,
+        deadline,
+        runs,
+        gaps,
     }
 }
 
+// Two names, and no kind to pass: a case reads as its label does.
 pub fn soft(deadline: u8, runs: u16, gaps: u16) -> Task
     ensures { result ≡ soft deadline runs gaps }
 {
@@ -63,41 +64,28 @@ pub fn set(count: u8, tasks: [Task; 7]) -> Set
 {
     Set {
         name: *b"CASE\0\0\0\0\0\0\0\0\0\0\0\0",
-        count: count,
-        tasks: tasks,
+        count,
+        tasks,
     }
 }
 
 pub fn named(name: [u8; 16], s: Set) -> Set
     ensures { result ≡ renamed name s }
 {
-    let mut r = s;
-    r.name = name;
-    r
+    Set { name, ..s }
 }
 
-pub fn one(t: Task) -> Set
-    ensures { result ≡ case_of (t ∷ []) }
+// Tasks, and blank records beyond them.
+pub fn case_of<const N: usize>(tasks: [Task; N]) -> Set
+    requires { N ≤ 7 }
+    ensures { result ≡ case_of tasks.entry }
 {
-    let z = blank();
-    set(1, [t, z, z, z, z, z, z])
+    let mut records = [blank(); 7];
+    records[..N].copy_from_slice(&tasks);
+    set(N as u8, records)
 }
 
-pub fn two(a: Task, b: Task) -> Set
-    ensures { result ≡ case_of (a ∷ b ∷ []) }
-{
-    let z = blank();
-    set(2, [a, b, z, z, z, z, z])
-}
-
-pub fn three(a: Task, b: Task, c: Task) -> Set
-    ensures { result ≡ case_of (a ∷ b ∷ c ∷ []) }
-{
-    let z = blank();
-    set(3, [a, b, c, z, z, z, z])
-}
-
-// Seven times the same record.
+// Seven times the same record. Not `case_of`: the count is given, whatever the records are.
 pub fn all(count: u8, t: Task) -> Set
     ensures { result ≡ records_of count (replicate 7 t) }
 {
@@ -109,7 +97,7 @@ pub fn pair() -> Set
 {
     named(
         *b"PAIR\0\0\0\0\0\0\0\0\0\0\0\0",
-        two(hard(2, V1, V2), hard(2, V1, V2)),
+        case_of([hard(2, V1, V2), hard(2, V1, V2)]),
     )
 }
 
@@ -119,6 +107,6 @@ pub fn example() -> Set
 {
     named(
         *b"EXAMPLE-1\0\0\0\0\0\0\0",
-        two(hard(2, V1, V3), soft(2, V1 + V2, V3)),
+        case_of([hard(2, V1, V3), soft(2, V1 + V2, V3)]),
     )
 }

@@ -8,17 +8,16 @@ use borrow.Author.Tests.{eq-eqb, ne_eqb, eqb-true, not-true}
 use lib.Dec.{eqb, leb}
 use lib.ListN.{length, get_or, drop}
 use Rattle.commands.specs.declared.buffers.Lengths.{Lengths}
-use Rattle.commands.specs.declared.lines.Parsed.TheVariants.{Mangled}
-use Rattle.commands.specs.declared.lines.Tried.{Tried}
-use Rattle.commands.specs.declared.lines.Tried.TheVariants.{Unfit, Fits}
-use Rattle.commands.specs.Texts.{same, parts, in_front}
+use Rattle.commands.specs.declared.forms.Values.{Values}
+use Rattle.commands.specs.Texts.{parts, in_front}
+use Rattle.std.specs.Prelude.{Option, Some, None, is_some, is_none, bytes_eq}
 use Rattle.commands.specs.Words.{each, digit, is_number, is_bytes, well_begun, hex_digit}
 use Rattle.commands.specs.Buffers.{buffer_of}
 use Rattle.commands.specs.Forms.{asks_bytes, no_values}
 use Rattle.commands.specs.Lines.{page, words, rows, fit, fit_rows, parse_of, taken_or}
-use Rattle.commands.specs.Mangled.{some, ends_in_space, two_together, is_mangled, has_form, formed, named, counted, too_long, badly_spaced, no_command, wrong_number, bad_form, ranged, out_of_range, one_holds}
+use Rattle.commands.specs.Mangled.{some, ends_in_space, two_together, has_form, formed, named, counted, too_long, badly_spaced, no_command, wrong_number, bad_form, ranged, out_of_range, one_holds}
 use Rattle.commands.proofs.TextLaws.{first, some_part}
-use Rattle.commands.proofs.Ranges.{is_fit, clash, and_left, and_right, well_made, fit_exactly, rows_made}
+use Rattle.commands.proofs.Ranges.{clash, and_left, and_right, well_made, fit_exactly, rows_made}
 
 -- A LINE THAT HAS A ROW'S FORMS
 
@@ -31,7 +30,7 @@ formed_number (f ∷ fs) (w ∷ ws) h = ap suc (formed_number fs ws (and_right (
 
 -- an empty word has no form
 form_some : (f : List ℕ) → has_form f [] ≡ false
-unfolding has_form same buffer_of is_bytes is_number well_begun
+unfolding has_form buffer_of is_bytes is_number well_begun
 form_some [] = step (asks_bytes 0)
   where
     step : (d : Bool) → cond d false false ≡ false
@@ -81,20 +80,20 @@ module _ (l : Lengths) (ws : List (List ℕ)) where
   abbrev good : List ℕ → Bool
   good row = formed (words row) ws && ranged l (words row) ws
 
-  unfit_mangled : (kind : ℕ) (rs : List (List ℕ)) → is_mangled (fit_rows l kind rs ws) ≡ not (some (λ row. is_fit (fit l no_values 0 (words row) ws)) rs)
+  unfit_mangled : (kind : ℕ) (rs : List (List ℕ)) → is_none (fit_rows l kind rs ws) ≡ not (some (λ row. is_some (fit l no_values 0 (words row) ws)) rs)
   unfolding fit_rows
   unfit_mangled kind [] = refl
   unfit_mangled kind (row ∷ rs) = step (fit l no_values 0 (words row) ws) (unfit_mangled (kind + 1) rs)
     where
-      step : (x : Tried) → is_mangled (fit_rows l (kind + 1) rs ws) ≡ not (some (λ row. is_fit (fit l no_values 0 (words row) ws)) rs) →
-          is_mangled (taken_or kind x (fit_rows l (kind + 1) rs ws)) ≡ not (is_fit x || some (λ row. is_fit (fit l no_values 0 (words row) ws)) rs)
-      step Unfit k = k
-      step (Fits vs) k = refl
+      step : (x : Option Values) → is_none (fit_rows l (kind + 1) rs ws) ≡ not (some (λ row. is_some (fit l no_values 0 (words row) ws)) rs) →
+          is_none (taken_or kind x (fit_rows l (kind + 1) rs ws)) ≡ not (is_some x || some (λ row. is_some (fit l no_values 0 (words row) ws)) rs)
+      step None k = k
+      step (Some vs) k = refl
 
-  rows_mangled : is_mangled (fit_rows l 0 rows ws) ≡ not (some good rows)
+  rows_mangled : is_none (fit_rows l 0 rows ws) ≡ not (some good rows)
   rows_mangled =
       unfit_mangled 0 rows
-      ∙ ap not (some_same (λ row. well_made (words row)) (λ row. is_fit (fit l no_values 0 (words row) ws)) good (λ row h. fit_exactly l (words row) ws h) rows rows_made)
+      ∙ ap not (some_same (λ row. well_made (words row)) (λ row. is_some (fit l no_values 0 (words row) ws)) good (λ row h. fit_exactly l (words row) ws h) rows rows_made)
 
   row_formed : (row : List ℕ) → good row ≡ true → formed (words row) ws ≡ true
   row_formed row h = and_left _ _ h
@@ -115,8 +114,7 @@ module _ (l : Lengths) (ws : List (List ℕ)) where
 
 -- NO LINE HAS THE FORMS OF TWO ROWS
 
-same_is : (a b : List ℕ) → same a b ≡ true → a ≡ b
-unfolding same
+same_is : (a b : List ℕ) → bytes_eq a b ≡ true → a ≡ b
 same_is [] [] h = refl
 same_is [] (y ∷ b) h = clash (sym h)
 same_is (x ∷ a) [] h = clash (sym h)
@@ -160,7 +158,7 @@ all_apart [] = true
 all_apart (row ∷ rs) = each (λ q. apart (words row) (words q)) rs && all_apart rs
 
 rows_apart : all_apart rows ≡ true
-unfolding page parts has_form same buffer_of asks_bytes is_bytes is_number well_begun digit hex_digit
+unfolding page parts has_form buffer_of asks_bytes is_bytes is_number well_begun digit hex_digit
 rows_apart = refl
 
 module _ (l : Lengths) (ws : List (List ℕ)) where
@@ -261,7 +259,7 @@ or_last false false true d h = refl
 or_last false false false d h = sym h
 
 -- a line is mangled exactly when one of the six holds
-pub mangled_exactly : (l : Lengths) (line : List ℕ) → is_mangled (parse_of l line) ≡ one_holds l line
+pub mangled_exactly : (l : Lengths) (line : List ℕ) → is_none (parse_of l line) ≡ one_holds l line
 unfolding parse_of
 mangled_exactly l line = step (too_long line)
   where
@@ -277,6 +275,6 @@ mangled_exactly l line = step (too_long line)
     fitting false e =
         or_last (badly_spaced line) (no_command line) (wrong_number line) (bad_form line || out_of_range l line) (unranged (some (λ row. formed (words row) (words line)) rows) refl e)
 
-    step : (t : Bool) → is_mangled (cond t Mangled (fit_rows l 0 rows (words line))) ≡ (t || (badly_spaced line || (no_command line || (wrong_number line || (bad_form line || out_of_range l line)))))
+    step : (t : Bool) → is_none (cond t None (fit_rows l 0 rows (words line))) ≡ (t || (badly_spaced line || (no_command line || (wrong_number line || (bad_form line || out_of_range l line)))))
     step true = refl
     step false = rows_mangled l (words line) ∙ fitting (some (good l (words line)) rows) refl

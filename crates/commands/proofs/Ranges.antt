@@ -1,4 +1,5 @@
 -- A line fits a row exactly when its words have their forms, and its numbers are in their ranges.
+use Rattle.std.specs.Bool.{then_some}
 use mathlib.Core.Bool.{Bool, true, false, not, ◌&&◌, ◌||◌, cond, and-true, and-false}
 use mathlib.Core.List.{List, [], ◌∷◌}
 use mathlib.Core.Path.{◌≡◌, refl, sym, ap, ap₂, ◌∙◌}
@@ -10,20 +11,13 @@ use lib.Dec.{eqb, leb, ltb, leb-zero, leb-suc-zero, leb-suc-suc}
 use lib.ListN.{length, get_or}
 use Rattle.commands.specs.declared.buffers.Lengths.{Lengths}
 use Rattle.commands.specs.declared.forms.Values.{Values}
-use Rattle.commands.specs.declared.numbers.Found.{Found}
-use Rattle.commands.specs.declared.numbers.Found.TheVariants.{Nothing, Value}
-use Rattle.commands.specs.declared.lines.Tried.{Tried}
-use Rattle.commands.specs.declared.lines.Tried.TheVariants.{Unfit, Fits}
-use Rattle.commands.specs.Texts.{bytes, same, parts}
-use Rattle.commands.specs.Words.{each, within, found_if, is_number, is_bytes, decimal, number_in, bytes_in}
+use Rattle.commands.specs.Texts.{bytes, parts}
+use Rattle.std.specs.Prelude.{Option, Some, None, is_some, option_and_then, bytes_eq}
+use Rattle.commands.specs.Words.{each, within, is_number, is_bytes, decimal, number_in, bytes_in}
 use Rattle.commands.specs.Buffers.{text_most, length_of, most_of, buffer_of}
 use Rattle.commands.specs.Forms.{asks_bytes, range_of, buffer_range_of, in_range, letter_value, value_of, kept, no_values}
-use Rattle.commands.specs.Lines.{page, words, rows, fit, on_value}
-use Rattle.commands.specs.Mangled.{is_found, has_form, formed, most_named, length_named, number_of, from_to, takes, each_number, ranged}
-
-abbrev pub is_fit : Tried → Bool
-is_fit Unfit = false
-is_fit (Fits vs) = true
+use Rattle.commands.specs.Lines.{page, words, rows, fit}
+use Rattle.commands.specs.Mangled.{has_form, formed, most_named, length_named, number_of, from_to, takes, each_number, ranged}
 
 -- TRUTH VALUES
 
@@ -84,18 +78,18 @@ least_left n a b c = same_truth _ _
 
 -- A VALUE IS FOUND
 
-found_if_lem : (b : Bool) (v : ℕ) → is_found (found_if b v) ≡ b
-found_if_lem true v = refl
-found_if_lem false v = refl
+some_if : (b : Bool) (v : ℕ) → is_some (then_some b v) ≡ b
+some_if true v = refl
+some_if false v = refl
 
-number_found : (lo end : ℕ) (w : List ℕ) (t : Bool) → within lo end (decimal w) ≡ t → is_found (number_in lo end w) ≡ (is_number w && t)
+number_found : (lo end : ℕ) (w : List ℕ) (t : Bool) → within lo end (decimal w) ≡ t → is_some (number_in lo end w) ≡ (is_number w && t)
 unfolding number_in
-number_found lo end w t e = found_if_lem _ _ ∙ ap (λ t. is_number w && t) e
+number_found lo end w t e = some_if _ _ ∙ ap (λ t. is_number w && t) e
 
 -- bytes of which there is at least one
-bytes_found : (lo end : ℕ) (w : List ℕ) (t : Bool) → within (lo + 1) end (length w / 2) ≡ t → is_found (bytes_in (lo + 1) end w) ≡ ((is_bytes w && ltb 0 (length w)) && t)
+bytes_found : (lo end : ℕ) (w : List ℕ) (t : Bool) → within (lo + 1) end (length w / 2) ≡ t → is_some (bytes_in (lo + 1) end w) ≡ ((is_bytes w && ltb 0 (length w)) && t)
 unfolding bytes_in
-bytes_found lo end w t e = found_if_lem _ _ ∙ ap (λ t. is_bytes w && t) e ∙ step (is_bytes w) t refl e
+bytes_found lo end w t e = some_if _ _ ∙ ap (λ t. is_bytes w && t) e ∙ step (is_bytes w) t refl e
   where
     step : (x t' : Bool) → t ≡ t' → within (lo + 1) end (length w / 2) ≡ t' → (x && t') ≡ ((x && ltb 0 (length w)) && t')
     step false t' q h = refl
@@ -107,12 +101,12 @@ bytes_found lo end w t e = found_if_lem _ _ ∙ ap (λ t. is_bytes w && t) e ∙
 
 -- THE BUFFER THAT A WORD NAMES
 
-named_as : (h : ℕ → ℕ) (b : List ℕ) (v : ℕ) → buffer_of b ≡ Value v →
-    h v ≡ cond (same b (bytes "table")) (h 0) (cond (same b (bytes "work")) (h 1) (cond (same b (bytes "file")) (h 2) (h 3)))
+named_as : (h : ℕ → ℕ) (b : List ℕ) (v : ℕ) → buffer_of b ≡ Some v →
+    h v ≡ cond (bytes_eq b (bytes "table")) (h 0) (cond (bytes_eq b (bytes "work")) (h 1) (cond (bytes_eq b (bytes "file")) (h 2) (h 3)))
 unfolding buffer_of
-named_as h b v e = step (same b (bytes "table")) (same b (bytes "work")) (same b (bytes "file")) (same b (bytes "text")) e
+named_as h b v e = step (bytes_eq b (bytes "table")) (bytes_eq b (bytes "work")) (bytes_eq b (bytes "file")) (bytes_eq b (bytes "text")) e
   where
-    step : (t w f x : Bool) → cond t (Value 0) (cond w (Value 1) (cond f (Value 2) (cond x (Value 3) Nothing))) ≡ Value v →
+    step : (t w f x : Bool) → cond t (Some 0) (cond w (Some 1) (cond f (Some 2) (cond x (Some 3) None))) ≡ Some v →
         h v ≡ cond t (h 0) (cond w (h 1) (cond f (h 2) (h 3)))
     step true w f x e = let z : ◌≡◌ {A = ℕ} 0 v = cc in rw (← z)
     step false true f x e = let z : ◌≡◌ {A = ℕ} 1 v = cc in rw (← z)
@@ -120,11 +114,11 @@ named_as h b v e = step (same b (bytes "table")) (same b (bytes "work")) (same b
     step false false false true e = let z : ◌≡◌ {A = ℕ} 3 v = cc in rw (← z)
     step false false false false e = never (cc)
 
-named_most : (b : List ℕ) (v : ℕ) → buffer_of b ≡ Value v → most_of v ≡ most_named b
+named_most : (b : List ℕ) (v : ℕ) → buffer_of b ≡ Some v → most_of v ≡ most_named b
 unfolding most_of most_named
 named_most b v e = named_as most_of b v e
 
-named_length : (l : Lengths) (b : List ℕ) (v : ℕ) → buffer_of b ≡ Value v → length_of l v ≡ length_named l b
+named_length : (l : Lengths) (b : List ℕ) (v : ℕ) → buffer_of b ≡ Some v → length_of l v ≡ length_named l b
 unfolding length_of length_named
 named_length l b v e = named_as (length_of l) b v e
 
@@ -144,12 +138,12 @@ after_buffer f = eqb f 76 || (eqb f 79 || eqb f 67)
 module _ (l : Lengths) (vs : Values) (b : List ℕ) (o : ℕ) where
   -- the values that a letter's range looks at are those of the words before
   record Knows (f : ℕ) : Type 0 where
-    buffer : after_buffer f ≡ true → buffer_of b ≡ Value vs.first
+    buffer : after_buffer f ≡ true → buffer_of b ≡ Some vs.first
     offset : eqb f 67 ≡ true → vs.second ≡ o
 
   abbrev Exact : List ℕ → ℕ → Type 0
   Exact w f = Knows f → leb 97 f ≡ false →
-      is_found (in_range f (range_of l vs f) w) ≡ (cond (asks_bytes f) (is_bytes w && ltb 0 (length w)) (is_number w) && takes l b o f (number_of f w))
+      is_some (in_range f (range_of l vs f) w) ≡ (cond (asks_bytes f) (is_bytes w && ltb 0 (length w)) (is_number w) && takes l b o f (number_of f w))
 
   letter_exactly : (w : List ℕ) (f : ℕ) → (f ≡ 85 → ⊥) → Exact w f
   unfolding range_of buffer_range_of asks_bytes takes
@@ -180,15 +174,15 @@ module _ (l : Lengths) (vs : Values) (b : List ℕ) (o : ℕ) where
   unfolding takes
   buffer_taken f n e = rw e
 
-  value_exactly : (f w : List ℕ) → Knows (get_or f 0 0) → is_found (value_of l vs f w) ≡ (has_form f w && takes l b o (get_or f 0 0) (number_of (get_or f 0 0) w))
+  value_exactly : (f w : List ℕ) → Knows (get_or f 0 0) → is_some (value_of l vs f w) ≡ (has_form f w && takes l b o (get_or f 0 0) (number_of (get_or f 0 0) w))
   unfolding value_of letter_value has_form
   value_exactly f w k = step (get_or f 0 0) k (leb 97 (get_or f 0 0)) (eqb (get_or f 0 0) 85) refl refl
     where
       step : (c : ℕ) → Knows c → (t u : Bool) → leb 97 c ≡ t → eqb c 85 ≡ u →
-          is_found (cond t (found_if (same f w) 0) (cond u (buffer_of w) (in_range c (range_of l vs c) w)))
-          ≡ (cond t (same f w) (cond u (is_found (buffer_of w)) (cond (asks_bytes c) (is_bytes w && ltb 0 (length w)) (is_number w))) && takes l b o c (number_of c w))
-      step c k true u e g = rw (fixed_taken c (number_of c w) e) (found_if_lem (same f w) 0 ∙ sym (and-true (same f w)))
-      step c k false true e g = rw (buffer_taken c (number_of c w) (eqb-true c 85 g)) (sym (and-true (is_found (buffer_of w))))
+          is_some (cond t (then_some (bytes_eq f w) 0) (cond u (buffer_of w) (in_range c (range_of l vs c) w)))
+          ≡ (cond t (bytes_eq f w) (cond u (is_some (buffer_of w)) (cond (asks_bytes c) (is_bytes w && ltb 0 (length w)) (is_number w))) && takes l b o c (number_of c w))
+      step c k true u e g = rw (fixed_taken c (number_of c w) e) (some_if (bytes_eq f w) 0 ∙ sym (and-true (bytes_eq f w)))
+      step c k false true e g = rw (buffer_taken c (number_of c w) (eqb-true c 85 g)) (sym (and-true (is_some (buffer_of w))))
       step c k false false e g = letter_exactly w c (eqb-false c 85 g) k e
 
 -- A LINE BY A ROW
@@ -198,24 +192,24 @@ abbrev suits : (ℕ → ℕ → Bool) → List (List ℕ) → List (List ℕ) �
 suits t fs ws = formed fs ws && each_number t fs ws
 
 module _ (l : Lengths) (vs : Values) (place : ℕ) (t : ℕ → ℕ → Bool) where
-  no_word : (f : List ℕ) (fs : List (List ℕ)) → is_fit (fit l vs place (f ∷ fs) []) ≡ suits t (f ∷ fs) []
+  no_word : (f : List ℕ) (fs : List (List ℕ)) → is_some (fit l vs place (f ∷ fs) []) ≡ suits t (f ∷ fs) []
   unfolding fit formed
   no_word f fs = refl
 
-  no_form : (ws : List (List ℕ)) → is_fit (fit l vs place [] ws) ≡ suits t [] ws
+  no_form : (ws : List (List ℕ)) → is_some (fit l vs place [] ws) ≡ suits t [] ws
   unfolding fit formed each_number
   no_form [] = refl
   no_form (w ∷ ws) = refl
 
-  one_word : (f w : List ℕ) (fs ws : List (List ℕ)) → is_found (value_of l vs f w) ≡ (has_form f w && t (get_or f 0 0) (number_of (get_or f 0 0) w)) →
-      ((v : ℕ) → value_of l vs f w ≡ Value v → is_fit (fit l (kept vs place v) (place + 1) fs ws) ≡ suits t fs ws) →
-      is_fit (fit l vs place (f ∷ fs) (w ∷ ws)) ≡ suits t (f ∷ fs) (w ∷ ws)
+  one_word : (f w : List ℕ) (fs ws : List (List ℕ)) → is_some (value_of l vs f w) ≡ (has_form f w && t (get_or f 0 0) (number_of (get_or f 0 0) w)) →
+      ((v : ℕ) → value_of l vs f w ≡ Some v → is_some (fit l (kept vs place v) (place + 1) fs ws) ≡ suits t fs ws) →
+      is_some (fit l vs place (f ∷ fs) (w ∷ ws)) ≡ suits t (f ∷ fs) (w ∷ ws)
   unfolding fit formed each_number
   one_word f w fs ws e k = step (value_of l vs f w) refl ∙ ap (λ x. x && suits t fs ws) e ∙ and_pairs (has_form f w) (t (get_or f 0 0) (number_of (get_or f 0 0) w)) (formed fs ws) (each_number t fs ws)
     where
-      step : (x : Found) → value_of l vs f w ≡ x → is_fit (on_value x (λ v. fit l (kept vs place v) (place + 1) fs ws)) ≡ (is_found x && suits t fs ws)
-      step Nothing g = refl
-      step (Value v) g = k v g
+      step : (x : Option ℕ) → value_of l vs f w ≡ x → is_some (option_and_then (λ v. fit l (kept vs place v) (place + 1) fs ws) x) ≡ (is_some x && suits t fs ws)
+      step None g = refl
+      step (Some v) g = k v g
 
 -- a form that looks at no word before it
 abbrev plain : List ℕ → Bool
@@ -228,7 +222,7 @@ module _ (l : Lengths) (b : List ℕ) (o : ℕ) where
     offset = λ e. let g : after_buffer (get_or f 0 0) ≡ true = rw (eqb-true (get_or f 0 0) 67 e) in clash (sym g ∙ not-true _ h);
   }
 
-  fit_plain : (vs : Values) (place : ℕ) (fs ws : List (List ℕ)) → each plain fs ≡ true → is_fit (fit l vs place fs ws) ≡ suits (takes l b o) fs ws
+  fit_plain : (vs : Values) (place : ℕ) (fs ws : List (List ℕ)) → each plain fs ≡ true → is_some (fit l vs place fs ws) ≡ suits (takes l b o) fs ws
   fit_plain vs place [] ws h = no_form l vs place (takes l b o) ws
   fit_plain vs place (f ∷ fs) [] h = no_word l vs place (takes l b o) f fs
   fit_plain vs place (f ∷ fs) (w ∷ ws) h =
@@ -237,16 +231,16 @@ module _ (l : Lengths) (b : List ℕ) (o : ℕ) where
 
 -- A ROW WITH A BUFFER: its second form; a count, if there is one, is the fourth, behind an offset
 
-number_is : (lo end : ℕ) (w : List ℕ) (v : ℕ) → number_in lo end w ≡ Value v → v ≡ decimal w
+number_is : (lo end : ℕ) (w : List ℕ) (v : ℕ) → number_in lo end w ≡ Some v → v ≡ decimal w
 unfolding number_in
 number_is lo end w v e = step (is_number w && within lo end (decimal w)) e
   where
-    step : (t : Bool) → found_if t (decimal w) ≡ Value v → v ≡ decimal w
+    step : (t : Bool) → then_some t (decimal w) ≡ Some v → v ≡ decimal w
     step true h = cc
     step false h = never (cc)
 
-module _ (l : Lengths) (vs : Values) (f w : List ℕ) (v : ℕ) (e : value_of l vs f w ≡ Value v) where
-  value_buffer : eqb (get_or f 0 0) 85 ≡ true → buffer_of w ≡ Value v
+module _ (l : Lengths) (vs : Values) (f w : List ℕ) (v : ℕ) (e : value_of l vs f w ≡ Some v) where
+  value_buffer : eqb (get_or f 0 0) 85 ≡ true → buffer_of w ≡ Some v
   unfolding value_of letter_value
   value_buffer h = rw (eqb-true (get_or f 0 0) 85 h) at e
 
@@ -268,9 +262,9 @@ with_buffer (f ∷ []) = false
 with_buffer (f ∷ u ∷ []) = false
 with_buffer (f ∷ u ∷ g ∷ fs) = plain f && (eqb (get_or u 0 0) 85 && (not (is_count g) && last_behind g fs))
 
-module _ (l : Lengths) (b : List ℕ) (o v : ℕ) (named : buffer_of b ≡ Value v) where
+module _ (l : Lengths) (b : List ℕ) (o v : ℕ) (named : buffer_of b ≡ Some v) where
   third_on : (g : List ℕ) (fs ws : List (List ℕ)) (n : ℕ) → (eqb (get_or g 0 0) 79 ≡ true → n ≡ o) → last_behind g fs ≡ true →
-      is_fit (fit l (record { first = v; second = n; third = 0 }) 3 fs ws) ≡ suits (takes l b o) fs ws
+      is_some (fit l (record { first = v; second = n; third = 0 }) 3 fs ws) ≡ suits (takes l b o) fs ws
   third_on g [] ws n k h = no_form l _ 3 (takes l b o) ws
   third_on g (f ∷ []) [] n k h = no_word l _ 3 (takes l b o) f []
   third_on g (f ∷ []) (w ∷ ws) n k h =
@@ -280,7 +274,7 @@ module _ (l : Lengths) (b : List ℕ) (o v : ℕ) (named : buffer_of b ≡ Value
   third_on g (f ∷ x ∷ fs) ws n k h = clash (sym h)
 
   second_on : (g : List ℕ) (fs ws : List (List ℕ)) → decimal (get_or ws 0 []) ≡ o → not (is_count g) ≡ true → last_behind g fs ≡ true →
-      is_fit (fit l (record { first = v; second = 0; third = 0 }) 2 (g ∷ fs) ws) ≡ suits (takes l b o) (g ∷ fs) ws
+      is_some (fit l (record { first = v; second = 0; third = 0 }) 2 (g ∷ fs) ws) ≡ suits (takes l b o) (g ∷ fs) ws
   second_on g fs [] d c h = no_word l _ 2 (takes l b o) g fs
   second_on g fs (w ∷ ws) d c h =
       let vs : Values = record { first = v; second = 0; third = 0 } in
@@ -288,7 +282,7 @@ module _ (l : Lengths) (b : List ℕ) (o v : ℕ) (named : buffer_of b ≡ Value
       one_word l vs 2 (takes l b o) g w fs ws (value_exactly l vs b o g w knows)
       (λ n e. third_on g fs ws n (λ q. value_offset l vs g w n e q ∙ d) h)
 
-fit_buffer : (l : Lengths) (fs ws : List (List ℕ)) → with_buffer fs ≡ true → is_fit (fit l no_values 0 fs ws) ≡ (formed fs ws && ranged l fs ws)
+fit_buffer : (l : Lengths) (fs ws : List (List ℕ)) → with_buffer fs ≡ true → is_some (fit l no_values 0 fs ws) ≡ (formed fs ws && ranged l fs ws)
 fit_buffer l [] ws h = clash (sym h)
 fit_buffer l (f ∷ []) ws h = clash (sym h)
 fit_buffer l (f ∷ u ∷ []) ws h = clash (sym h)
@@ -311,10 +305,10 @@ fit_buffer l (f ∷ u ∷ g ∷ fs) (w ∷ b ∷ ws) h =
 abbrev pub well_made : List (List ℕ) → Bool
 well_made fs = each plain fs || with_buffer fs
 
-pub fit_exactly : (l : Lengths) (fs ws : List (List ℕ)) → well_made fs ≡ true → is_fit (fit l no_values 0 fs ws) ≡ (formed fs ws && ranged l fs ws)
+pub fit_exactly : (l : Lengths) (fs ws : List (List ℕ)) → well_made fs ≡ true → is_some (fit l no_values 0 fs ws) ≡ (formed fs ws && ranged l fs ws)
 fit_exactly l fs ws h = step (each plain fs) refl h
   where
-    step : (t : Bool) → each plain fs ≡ t → (t || with_buffer fs) ≡ true → is_fit (fit l no_values 0 fs ws) ≡ (formed fs ws && ranged l fs ws)
+    step : (t : Bool) → each plain fs ≡ t → (t || with_buffer fs) ≡ true → is_some (fit l no_values 0 fs ws) ≡ (formed fs ws && ranged l fs ws)
     step true e g = fit_plain l (get_or ws 1 []) (decimal (get_or ws 2 [])) no_values 0 fs ws e
     step false e g = fit_buffer l fs ws g
 

@@ -1,15 +1,16 @@
 -- Laws of texts: a text from a place on, split at a byte, and compared.
-use mathlib.Core.Bool.{Bool, true, false, ◌&&◌}
+use mathlib.Core.Bool.{Bool, true, false, cond}
 use mathlib.Core.List.{List, [], ◌∷◌}
-use mathlib.Core.Path.{◌≡◌, refl, ap}
-use Prim.Native.Nat.{ℕ, suc, ◌+◌, ◌-◌, ◌<◌, ◌≤◌}
+use mathlib.Core.Path.{◌≡◌, refl, sym, ◌∙◌}
+use Prim.Native.Nat.{ℕ, suc, ◌+◌, ◌<◌, ◌≤◌}
 use native.Mathlib.Numerals.{add-one}
 use native.Mathlib.Omega.{arith}
-use borrow.Author.Tests.{eq-eqb, ne_eqb}
-use lib.Dec.{eqb}
-use lib.ListN.{length, take, drop, get_or, length-drop, drop_of_length-le}
-use lib.Seq.{drop-cons, drop-drop}
-use Rattle.commands.specs.Texts.{index_of, parts, same}
+use borrow.Author.Tests.{ltb-false}
+use lib.Dec.{eqb, ltb}
+use lib.ListN.{length, take, drop}
+use Rattle.std.specs.Prelude.{Some, None, unwrap_or, position}
+use Rattle.std.specs.List.{position_or_len}
+use Rattle.commands.specs.Texts.{index_of, parts}
 
 -- the part before the first b
 abbrev pub first : ℕ → List ℕ → List ℕ
@@ -44,59 +45,41 @@ some_part b (x ∷ l) = step (eqb x b) refl (some_part b l)
     step true e h = simp e
     step false e h = rw (e, h)
 
--- the same from a place on, where r is the place of the first b
-module _ (b : ℕ) (l : List ℕ) (from r : ℕ) (found : r ≡ from + index_of b (drop from l)) where
-  here : r - from ≡ index_of b (drop from l)
-  here = omega arith
+-- the same, where r is the place of the first b
+module _ (b : ℕ) (l : List ℕ) (r : ℕ) (found : r ≡ index_of b l) where
+  pub parts_first : parts b l ≡ take r l ∷ drop 1 (parts b l)
+  parts_first = rw found (some_part b l)
 
-  pub parts_first : parts b (drop from l) ≡ take (r - from) (drop from l) ∷ drop 1 (parts b (drop from l))
-  parts_first = rw here (some_part b (drop from l))
+  pub parts_last : r ≡ length l → parts b l ≡ take r l ∷ []
+  parts_last e = rw found (one_part b l (sym found ∙ e))
 
-  pub parts_last : from ≤ length l → r ≡ length l → parts b (drop from l) ≡ take (r - from) (drop from l) ∷ []
-  parts_last h e = rw here (one_part b (drop from l) (omega (arith, length-drop from l)))
-
-  pub parts_more : r < length l → parts b (drop from l) ≡ take (r - from) (drop from l) ∷ parts b (drop (r + 1) l)
-  parts_more h =
-      let e : from + suc (index_of b (drop from l)) ≡ r + 1 = omega arith in
-      rw (here, ← e, ← drop-drop (suc (index_of b (drop from l))) from l) (more_parts b (drop from l) (omega (arith, length-drop from l)))
-
--- COMPARED
-
-pub same_lengths : (a b : List ℕ) → (length a ≡ length b → ⊥) → same a b ≡ false
-unfolding same
-same_lengths [] [] n = absurd (n refl)
-same_lengths [] (y ∷ b) n = refl
-same_lengths (x ∷ a) [] n = refl
-same_lengths (x ∷ a) (y ∷ b) n = step (eqb x y) (same_lengths a b (λ e. n (ap suc e)))
-  where
-    step : (t : Bool) → same a b ≡ false → (t && same a b) ≡ false
-    step true h = h
-    step false h = refl
-
-module _ (a b : List ℕ) (i : ℕ) where
-  pub same_differ : i < length a → i < length b → (get_or a i 0 ≡ get_or b i 0 → ⊥) → same (drop i a) (drop i b) ≡ false
-  unfolding same
-  same_differ ha hb n = rw (drop-cons a i 0 ha, drop-cons b i 0 hb) (simp (ne_eqb _ _ n))
-
-  pub same_next : i < length a → i < length b → get_or a i 0 ≡ get_or b i 0 → same (drop i a) (drop i b) ≡ same (drop (i + 1) a) (drop (i + 1) b)
-  unfolding same
-  same_next ha hb e = rw (add-one, drop-cons a i 0 ha, drop-cons b i 0 hb) (simp (eq-eqb _ _ e))
-
-  pub same_end : length a ≤ i → length b ≤ i → same (drop i a) (drop i b) ≡ true
-  unfolding same
-  same_end ha hb = rw (drop_of_length-le a {i = i} ha, drop_of_length-le b {i = i} hb)
+  pub parts_more : r < length l → parts b l ≡ take r l ∷ parts b (drop (r + 1) l)
+  parts_more h = rw (found, add-one) (more_parts b l (omega (arith, found)))
 
 -- FOUND
 
-module _ (b : ℕ) (l : List ℕ) (i : ℕ) where
-  pub index_here : i < length l → get_or l i 0 ≡ b → index_of b (drop i l) ≡ 0
+module _ (b : ℕ) where
+  first_index : (l : List ℕ) → position_or_len (λ x. eqb x b) l ≡ index_of b l
   unfolding index_of
-  index_here h e = rw (drop-cons l i 0 h) (simp (eq-eqb _ _ e))
+  first_index [] = refl
+  first_index (x ∷ l) = step (eqb x b) refl (first_index l)
+    where
+      step : (t : Bool) → eqb x b ≡ t → position_or_len (λ x. eqb x b) l ≡ index_of b l → position_or_len (λ x. eqb x b) (x ∷ l) ≡ index_of b (x ∷ l)
+      step true e h = simp e
+      step false e h = simp (e, h) (omega arith)
 
-  pub index_next : i < length l → (get_or l i 0 ≡ b → ⊥) → i + index_of b (drop i l) ≡ i + 1 + index_of b (drop (i + 1) l)
+  pub index_inside : (l : List ℕ) → index_of b l ≤ length l
   unfolding index_of
-  index_next h n = rw (add-one, drop-cons l i 0 h) (simp (ne_eqb _ _ n) (omega arith))
+  index_inside [] = omega arith
+  index_inside (x ∷ l) = step (eqb x b) refl (index_inside l)
+    where
+      step : (t : Bool) → eqb x b ≡ t → index_of b l ≤ length l → index_of b (x ∷ l) ≤ length (x ∷ l)
+      step true e h = rw e (omega arith)
+      step false e h = rw e (omega arith)
 
-  pub index_end : length l ≤ i → index_of b (drop i l) ≡ 0
-  unfolding index_of
-  index_end h = rw (drop_of_length-le l {i = i} h)
+  pub index_found : (l : List ℕ) → unwrap_or (position (λ x. eqb x b) l) (length l) ≡ index_of b l
+  index_found l = rw (first_index l) (step (ltb (index_of b l) (length l)) refl)
+    where
+      step : (t : Bool) → ltb (index_of b l) (length l) ≡ t → unwrap_or (cond t (Some (index_of b l)) None) (length l) ≡ index_of b l
+      step true e = refl
+      step false e = omega (arith, ltb-false _ _ e, index_inside l)

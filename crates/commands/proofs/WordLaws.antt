@@ -1,5 +1,5 @@
 -- Laws of numbers and bytes.
-use mathlib.Core.Bool.{Bool, true, false, not, ◌&&◌, cond, and-false}
+use mathlib.Core.Bool.{Bool, true, false, not, ◌&&◌, and-false}
 use mathlib.Core.List.{List, [], ◌∷◌}
 use mathlib.Core.Path.{◌≡◌, refl}
 use Prim.Native.Nat.{ℕ, ◌+◌, ◌-◌, ◌*◌, ◌/◌, ◌%◌, ◌<◌, ◌≤◌}
@@ -9,7 +9,8 @@ use borrow.Author.Tests.{eq-eqb, lt-ltb, le-ltb, le-leb, lt-leb, leb-true}
 use lib.Dec.{eqb, leb}
 use lib.ListN.{length, drop, get_or, drop_of_length-le, get_or-eq_default}
 use lib.Seq.{drop-cons}
-use Rattle.commands.specs.declared.numbers.Found.TheVariants.{Nothing, Value}
+use Rattle.std.specs.Prelude.{Option, Some, None}
+use Rattle.std.proofs.lemmas.List.Recursion.{and_is}
 use Rattle.commands.specs.Words.{each, digit, well_begun, is_number, decimal_from, decimal, number_in, hex_digit, is_hex, is_bytes, bytes_in, byte_of, byte_at}
 
 -- a test at each byte from a place on
@@ -22,6 +23,10 @@ module _ (f : ℕ → Bool) (l : List ℕ) (i : ℕ) where
 
   pub each_end : length l ≤ i → each f (drop i l) ≡ true
   each_end h = rw (drop_of_length-le l {i = i} h)
+
+-- r is what `all` answers
+pub each_is : (f : ℕ → Bool) (l : List ℕ) (r : Bool) → (r ≡ true → (i : ℕ) → i < length l → f (get_or l i 0) ≡ true) → (r ≡ false → (i : ℕ) × (i < length l) × (f (get_or l i 0) ≡ false)) → r ≡ each f l
+each_is f l r = and_is (each f) f refl (λ _ _. refl) l 0 r
 
 -- NUMBERS
 
@@ -57,58 +62,54 @@ decimal_grows [] v = omega arith
 decimal_grows (b ∷ l) v = omega (arith, decimal_grows l (v * 10 + (b - 48)))
 
 module _ (lo end : ℕ) (w : List ℕ) where
-  pub number_begun : well_begun w ≡ false → number_in lo end w ≡ Nothing
+  pub number_begun : well_begun w ≡ false → number_in lo end w ≡ None
   unfolding number_in is_number
   number_begun h = simp h
 
-  pub number_digits : each digit w ≡ false → number_in lo end w ≡ Nothing
+  pub number_digits : each digit w ≡ false → number_in lo end w ≡ None
   unfolding number_in is_number
   number_digits h = simp (h, and-false)
 
-  pub number_low : decimal w < lo → number_in lo end w ≡ Nothing
+  pub number_low : decimal w < lo → number_in lo end w ≡ None
   unfolding number_in
   number_low h = simp (lt-leb _ _ h, and-false)
 
-  pub number_high : end ≤ decimal w → number_in lo end w ≡ Nothing
+  pub number_high : end ≤ decimal w → number_in lo end w ≡ None
   unfolding number_in
   number_high h = simp (le-ltb _ _ h, and-false)
 
-  pub number_taken : (v : ℕ) → well_begun w ≡ true → each digit w ≡ true → decimal w ≡ v → lo ≤ v → v < end → number_in lo end w ≡ Value v
+  pub number_taken : (v : ℕ) → well_begun w ≡ true → each digit w ≡ true → decimal w ≡ v → lo ≤ v → v < end → number_in lo end w ≡ Some v
   unfolding number_in is_number
   number_taken v b d e l h = simp (b, d, e, le-leb _ _ l, lt-ltb _ _ h)
 
 -- BYTES
 
 module _ (lo end : ℕ) (w : List ℕ) where
-  pub bytes_digits : each is_hex w ≡ false → bytes_in lo end w ≡ Nothing
+  pub bytes_digits : each is_hex w ≡ false → bytes_in lo end w ≡ None
   unfolding bytes_in is_bytes
   bytes_digits h = simp h
 
-  pub bytes_odd : length w % 2 ≡ 1 → bytes_in lo end w ≡ Nothing
+  pub bytes_odd : length w % 2 ≡ 1 → bytes_in lo end w ≡ None
   unfolding bytes_in is_bytes
   bytes_odd h = simp (h, and-false)
 
-  pub bytes_low : length w / 2 < lo → bytes_in lo end w ≡ Nothing
+  pub bytes_low : length w / 2 < lo → bytes_in lo end w ≡ None
   unfolding bytes_in
   bytes_low h = simp (lt-leb _ _ h, and-false)
 
-  pub bytes_high : end ≤ length w / 2 → bytes_in lo end w ≡ Nothing
+  pub bytes_high : end ≤ length w / 2 → bytes_in lo end w ≡ None
   unfolding bytes_in
   bytes_high h = simp (le-ltb _ _ h, and-false)
 
-  pub bytes_taken : each is_hex w ≡ true → (length w % 2 ≡ 1 → ⊥) → lo ≤ length w / 2 → length w / 2 < end → bytes_in lo end w ≡ Value (length w / 2)
+  pub bytes_taken : each is_hex w ≡ true → (length w % 2 ≡ 1 → ⊥) → lo ≤ length w / 2 → length w / 2 < end → bytes_in lo end w ≡ Some (length w / 2)
   unfolding bytes_in is_bytes
   bytes_taken d n l h =
       let e : length w % 2 ≡ 0 = omega arith in
       simp (d, eq-eqb _ _ e, le-leb _ _ l, lt-ltb _ _ h)
 
-byte_low : (high : ℕ) → byte_of high 16 ≡ 0
-unfolding byte_of
-byte_low high = step (eqb high 16)
-  where
-    step : (t : Bool) → ◌≡◌ {A = ℕ} (cond t 0 0) 0
-    step true = refl
-    step false = refl
+byte_low : (high : Option ℕ) → byte_of high None ≡ 0
+byte_low None = refl
+byte_low (Some v) = refl
 
 pub byte_beyond : (w : List ℕ) (k : ℕ) → length w / 2 ≤ k → byte_at w k ≡ 0
 unfolding byte_at hex_digit digit

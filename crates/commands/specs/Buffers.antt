@@ -1,9 +1,7 @@
 -- The four buffers: table, work, file, text.
-use Rattle.std.specs.Prelude.{cond, List, ℕ, eqb, ltb}
+use Rattle.std.specs.Prelude.{cond, List, ℕ, eqb, ltb, Option, Some, None, bytes_eq}
 use Rattle.commands.specs.declared.buffers.Lengths.{Lengths}
-use Rattle.commands.specs.declared.numbers.Found.{Found}
-use Rattle.commands.specs.declared.numbers.Found.TheVariants.{Nothing, Value}
-use Rattle.commands.specs.Texts.{bytes, same}
+use Rattle.commands.specs.Texts.{bytes}
 
 -- the buffers' numbers
 abbrev pub table : ℕ
@@ -37,9 +35,9 @@ unfoldable pub most_of : ℕ → ℕ
 most_of k = cond (ltb k file) table_most (cond (eqb k file) file_most text_most)
 
 -- one of the fixed words `table`, `work`, `file`, `text`
-unfoldable pub buffer_of : List ℕ → Found
+unfoldable pub buffer_of : List ℕ → Option ℕ
 buffer_of w =
-    cond (same w (bytes "table")) (Value table)
-    (cond (same w (bytes "work")) (Value work)
-    (cond (same w (bytes "file")) (Value file)
-    (cond (same w (bytes "text")) (Value text) Nothing)))
+    cond (bytes_eq w (bytes "table")) (Some table)
+    (cond (bytes_eq w (bytes "work")) (Some work)
+    (cond (bytes_eq w (bytes "file")) (Some file)
+    (cond (bytes_eq w (bytes "text")) (Some text) None)))

@@ -1,10 +1,7 @@
 -- The six ways in which a line is mangled. A row's forms and a line's words are both lists of texts.
-use Rattle.std.specs.Prelude.{Bool, true, false, not, ◌&&◌, ◌||◌, cond, List, [], ◌∷◌, ℕ, ◌+◌, ◌/◌, eqb, leb, ltb, length, get_or}
+use Rattle.std.specs.Prelude.{Bool, true, false, not, ◌&&◌, ◌||◌, cond, List, [], ◌∷◌, ℕ, ◌+◌, ◌/◌, eqb, leb, ltb, length, get_or, is_some, bytes_eq}
 use Rattle.commands.specs.declared.buffers.Lengths.{Lengths}
-use Rattle.commands.specs.declared.numbers.Found.{Found}
-use Rattle.commands.specs.declared.lines.Parsed.{Parsed}
-use Rattle.commands.specs.declared.lines.Parsed.TheVariants.{Mangled, Taken}
-use Rattle.commands.specs.Texts.{bytes, same}
+use Rattle.commands.specs.Texts.{bytes}
 use Rattle.commands.specs.Words.{is_number, is_bytes, decimal}
 use Rattle.commands.specs.Buffers.{table_most, file_most, text_most, buffer_of}
 use Rattle.commands.specs.Forms.{is_letter, asks_bytes}
@@ -14,19 +11,11 @@ abbrev pub some : (List ℕ → Bool) → List (List ℕ) → Bool
 some f [] = false
 some f (x ∷ l) = f x || some f l
 
-abbrev pub is_found : Found → Bool
-is_found Found.Nothing = false
-is_found (Found.Value v) = true
-
-abbrev pub is_mangled : Parsed → Bool
-is_mangled Mangled = true
-is_mangled (Taken c) = false
-
 -- a word has the form that its place asks for, whatever its range: a fixed word, a buffer, bytes (at least one), or a number
 unfoldable pub has_form : List ℕ → List ℕ → Bool
 has_form f w =
-    cond (leb 97 (get_or f 0 0)) (same f w)
-    (cond (is_letter (get_or f 0 0) (bytes "U")) (is_found (buffer_of w))
+    cond (leb 97 (get_or f 0 0)) (bytes_eq f w)
+    (cond (is_letter (get_or f 0 0) (bytes "U")) (is_some (buffer_of w))
     (cond (asks_bytes (get_or f 0 0)) (is_bytes w && ltb 0 (length w)) (is_number w)))
 
 -- each word has its form, and there are as many
@@ -77,15 +66,15 @@ bad_form line = not (some (λ row. formed (words row) (words line)) rows)
 -- the most bytes and the present length of the buffer that a word names
 unfoldable pub most_named : List ℕ → ℕ
 most_named b =
-    cond (same b (bytes "table")) table_most
-    (cond (same b (bytes "work")) table_most
-    (cond (same b (bytes "file")) file_most text_most))
+    cond (bytes_eq b (bytes "table")) table_most
+    (cond (bytes_eq b (bytes "work")) table_most
+    (cond (bytes_eq b (bytes "file")) file_most text_most))
 
 unfoldable pub length_named : Lengths → List ℕ → ℕ
 length_named l b =
-    cond (same b (bytes "table")) l.table
-    (cond (same b (bytes "work")) l.work
-    (cond (same b (bytes "file")) l.file l.text))
+    cond (bytes_eq b (bytes "table")) l.table
+    (cond (bytes_eq b (bytes "work")) l.work
+    (cond (bytes_eq b (bytes "file")) l.file l.text))
 
 -- the number that a word says: of bytes, how many they are
 abbrev pub number_of : ℕ → List ℕ → ℕ

@@ -1,5 +1,5 @@
--- Texts: their bytes, the parts between separators, whether two are the same.
-use Rattle.std.specs.Prelude.{Bool, true, false, ◌&&◌, cond, List, [], ◌∷◌, ℕ, zero, suc, eqb}
+-- Texts: their bytes, and the parts between separators.
+use Rattle.std.specs.Prelude.{cond, List, [], ◌∷◌, ℕ, zero, suc, eqb}
 use Prim.Native.String.{String, len, char_at}
 use Prim.Native.Char.{code}
 
@@ -25,10 +25,3 @@ in_front x (p ∷ ps) = (x ∷ p) ∷ ps
 unfoldable pub parts : ℕ → List ℕ → List (List ℕ)
 parts b [] = [] ∷ []
 parts b (x ∷ l) = cond (eqb x b) ([] ∷ parts b l) (in_front x (parts b l))
-
--- the same, byte for byte
-unfoldable pub same : List ℕ → List ℕ → Bool
-same [] [] = true
-same [] (y ∷ m) = false
-same (x ∷ l) [] = false
-same (x ∷ l) (y ∷ m) = eqb x y && same l m

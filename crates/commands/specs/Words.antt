@@ -1,7 +1,6 @@
 -- The forms of words: numbers and bytes.
-use Rattle.std.specs.Prelude.{Bool, true, false, not, ◌&&◌, cond, List, [], ◌∷◌, ℕ, ◌+◌, ◌-◌, ◌*◌, ◌/◌, ◌%◌, eqb, leb, ltb, length, get_or}
-use Rattle.commands.specs.declared.numbers.Found.{Found}
-use Rattle.commands.specs.declared.numbers.Found.TheVariants.{Nothing, Value}
+use Rattle.std.specs.Bool.{then_some}
+use Rattle.std.specs.Prelude.{Bool, true, false, not, ◌&&◌, cond, List, [], ◌∷◌, ℕ, ◌+◌, ◌-◌, ◌*◌, ◌/◌, ◌%◌, eqb, leb, ltb, length, get_or, Option, Some, None, is_some}
 
 module _ {A : Type 0} where
   -- a test passes at each element
@@ -12,10 +11,6 @@ module _ {A : Type 0} where
 -- at least lo, and below end
 abbrev pub within : ℕ → ℕ → ℕ → Bool
 within lo end v = leb lo v && ltb v end
-
--- the value, if the test holds
-abbrev pub found_if : Bool → ℕ → Found
-found_if b v = cond b (Value v) Nothing
 
 -- NUMBERS
 
@@ -42,29 +37,31 @@ abbrev pub decimal : List ℕ → ℕ
 decimal w = decimal_from 0 w
 
 -- the number that a word says, in its range
-unfoldable pub number_in : ℕ → ℕ → List ℕ → Found
-number_in lo end w = found_if (is_number w && within lo end (decimal w)) (decimal w)
+unfoldable pub number_in : ℕ → ℕ → List ℕ → Option ℕ
+number_in lo end w = then_some (is_number w && within lo end (decimal w)) (decimal w)
 
 -- BYTES
 
--- the value of a hexadecimal digit, 0 to 9 and a to f (no capitals), and 16 for any other byte
-unfoldable pub hex_digit : ℕ → ℕ
-hex_digit b = cond (digit b) (b - 48) (cond (leb 97 b && leb b 102) (b - 87) 16)
+-- the value of a hexadecimal digit, 0 to 9 and a to f (no capitals)
+unfoldable pub hex_digit : ℕ → Option ℕ
+hex_digit b = cond (digit b) (Some (b - 48)) (cond (leb 97 b && leb b 102) (Some (b - 87)) None)
 
 abbrev pub is_hex : ℕ → Bool
-is_hex b = not (eqb (hex_digit b) 16)
+is_hex b = is_some (hex_digit b)
 
 -- an even number of hexadecimal digits
 unfoldable pub is_bytes : List ℕ → Bool
 is_bytes w = each is_hex w && eqb (length w % 2) 0
 
 -- how many bytes a word says, in its range
-unfoldable pub bytes_in : ℕ → ℕ → List ℕ → Found
-bytes_in lo end w = found_if (is_bytes w && within lo end (length w / 2)) (length w / 2)
+unfoldable pub bytes_in : ℕ → ℕ → List ℕ → Option ℕ
+bytes_in lo end w = then_some (is_bytes w && within lo end (length w / 2)) (length w / 2)
 
 -- the high digit first; 0 where one is no digit
-unfoldable pub byte_of : ℕ → ℕ → ℕ
-byte_of high low = cond (eqb high 16) 0 (cond (eqb low 16) 0 (high * 16 + low))
+abbrev pub byte_of : Option ℕ → Option ℕ → ℕ
+byte_of None low = 0
+byte_of (Some high) None = 0
+byte_of (Some high) (Some low) = high * 16 + low
 
 -- two digits a byte: byte k of a word, 0 beyond its last
 unfoldable pub byte_at : List ℕ → ℕ → ℕ

@@ -2,11 +2,8 @@
 ghost use Rattle.std.specs.Prelude.{◌≡◌, ◌≤◌};
 ghost use Rattle.commands.specs.Buffers.{file_most, length_of, most_of, buffer_of};
 
-use crate::numbers::Found;
-use crate::texts;
-
 // The present length of each buffer.
-#[derive(Clone, Copy)]
+#[derive(Clone, Copy, Debug, PartialEq, Eq)]
 pub struct Lengths {
     pub table: u32,
     pub work: u32,
@@ -14,7 +11,7 @@ pub struct Lengths {
     pub text: u32,
 }
 
-// The buffers' numbers.
+// The buffers' numbers, and no enum: `desk_buffers::carry_out` promises what is left at every one.
 pub const TABLE: u32 = 0;
 
 pub const WORK: u32 = 1;
@@ -31,50 +28,41 @@ pub const FILE_MOST: u32 = 70000;
 pub const TEXT_MOST: u32 = 1200;
 
 // The present length of a buffer.
+#[tactic(auto, unfolding(crate::specs::Buffers::length_of))]
 pub(crate) fn length(lengths: Lengths, buffer: u32) -> u32
     ensures { result ≡ length_of lengths buffer }
 {
-    if buffer == TABLE {
-        return lengths.table;
+    match buffer {
+        TABLE => lengths.table,
+        WORK => lengths.work,
+        FILE => lengths.file,
+        _ => lengths.text,
     }
-    if buffer == WORK {
-        return lengths.work;
-    }
-    if buffer == FILE {
-        return lengths.file;
-    }
-    lengths.text
 }
 
 // The most bytes of a buffer.
+#[tactic(auto, unfolding(crate::specs::Buffers::most_of))]
 pub(crate) fn most(buffer: u32) -> u32
     ensures value { result ≡ most_of buffer }
     ensures small { result ≤ file_most }
 {
-    if buffer < FILE {
-        return TABLE_MOST;
+    match buffer {
+        TABLE | WORK => TABLE_MOST,
+        FILE => FILE_MOST,
+        _ => TEXT_MOST,
     }
-    if buffer == FILE {
-        return FILE_MOST;
-    }
-    TEXT_MOST
 }
 
 // The buffer that a word names.
-pub(crate) fn named(word: &[u8]) -> Found
+#[tactic(auto, unfolding(crate::specs::Buffers::buffer_of))]
+pub(crate) fn named(word: &[u8]) -> Option<u32>
     ensures { result ≡ buffer_of word.now }
 {
-    if texts::same(word, b"table") {
-        return Found::Value(TABLE);
+    match word {
+        b"table" => Some(TABLE),
+        b"work" => Some(WORK),
+        b"file" => Some(FILE),
+        b"text" => Some(TEXT),
+        _ => None,
     }
-    if texts::same(word, b"work") {
-        return Found::Value(WORK);
-    }
-    if texts::same(word, b"file") {
-        return Found::Value(FILE);
-    }
-    if texts::same(word, b"text") {
-        return Found::Value(TEXT);
-    }
-    Found::Nothing
 }

@@ -1,4 +1,5 @@
 // The kinds of command: the rows of the page in their order, from 0.
+// Numbers, and no enum: `desk::carry_out` and `desk_buffers::carry_out` promise what is left at every one.
 pub const RESET: usize = 0;
 
 pub const FILL: usize = 1;

@@ -2,34 +2,26 @@
 ghost use Rattle.std.specs.Prelude.{◌≡◌, ◌+◌, ◌-◌, ◌*◌, ◌≤◌};
 ghost use Rattle.commands.specs.Words.{digit, well_begun, number_in};
 
-// What a word says at its place: a number, or nothing that the place takes.
-#[derive(Clone, Copy)]
-pub enum Found {
-    Nothing,
-    Value(u32),
-}
+use std::ops::Range;
 
 // Whether a byte is a decimal digit.
+#[tactic(auto, unfolding(crate::specs::Words::digit))]
 fn is_digit(b: u8) -> bool
     ensures { result ≡ digit b }
 {
-    if b < b'0' {
-        return false;
-    }
-    b <= b'9'
+    matches!(b, b'0'..=b'9')
 }
 
 // Whether a word has a byte, and no leading zero.
+#[tactic(auto, using(crate::proofs::WordLaws::begun_none, crate::proofs::WordLaws::begun_one, crate::proofs::WordLaws::begun_more))]
 fn is_well_begun(word: &[u8]) -> bool
     ensures { result ≡ well_begun word.now }
 {
-    if word.len() == 0 {
-        return false;
+    match word {
+        [] => false,
+        [_] => true,
+        [b, ..] => *b != b'0',
     }
-    if word.len() == 1 {
-        return true;
-    }
-    word[0] != b'0'
 }
 
 // The number with one digit more.
@@ -37,36 +29,24 @@ fn longer(v: u64, b: u8) -> u64
     requires { (v ≤ 4294967295) × (48 ≤ b) }
     ensures { result ≡ v * 10 + (b - 48) }
 {
-    v * 10 + (b - b'0') as u64
+    v * 10 + u64::from(b - b'0')
 }
 
-// The number that a word says, if it is at least lo and below end.
-pub(crate) fn number(word: &[u8], lo: u64, end: u64) -> Found
-    requires { end ≤ 4294967296 }
-    ensures { result ≡ number_in lo end word.now }
+// The number that a word says, if it is in the range.
+pub(crate) fn number(word: &[u8], r: Range<u64>) -> Option<u32>
+    requires { r.end ≤ 4294967296 }
+    ensures { result ≡ number_in r.start r.end word.now }
 {
     if !is_well_begun(word) {
-        return Found::Nothing;
+        return None;
     }
     let mut v: u64 = 0;
-    let mut i = 0;
-    while i < word.len() {
-        let b = word[i];
-        if !is_digit(b) {
-            return Found::Nothing;
-        }
+    for b in word {
         // A number only grows with its digits, however many there are.
-        if end <= v {
-            return Found::Nothing;
+        if !is_digit(*b) || r.end <= v {
+            return None;
         }
-        v = longer(v, b);
-        i += 1;
+        v = longer(v, *b);
     }
-    if v < lo {
-        return Found::Nothing;
-    }
-    if end <= v {
-        return Found::Nothing;
-    }
-    Found::Value(v as u32)
+    if r.contains(&v) { Some(v as u32) } else { None }
 }

@@ -1,36 +1,19 @@
-// Where a text is split, and whether two are the same.
-ghost use Rattle.std.specs.Prelude.{◌≡◌, ◌+◌, ◌≤◌, length, drop};
-ghost use Rattle.commands.specs.Texts.{index_of, same as same_text};
+// Where a text is split.
+ghost use Rattle.std.specs.Prelude.{◌≡◌, ◌==◌, ◌≤◌, length, position};
+ghost use Rattle.commands.specs.Texts.{index_of};
 
-// Where a byte stands first from a place on; the end where it does not.
-pub(crate) fn find(text: &[u8], from: usize, mark: u8) -> usize
-    requires { from ≤ length text.now }
-    ensures value { result ≡ from + index_of mark (drop from text.now) }
-    ensures inside { result ≤ length text.now }
+// The first place that has the byte.
+fn first(text: &[u8], mark: u8) -> Option<usize>
+    ensures { result ≡ position (λ c. c == mark) text.now }
 {
-    let mut i = from;
-    while i < text.len() {
-        if text[i] == mark {
-            return i;
-        }
-        i += 1;
-    }
-    text.len()
+    text.iter().position(|c| *c == mark)
 }
 
-// Whether two texts are the same, byte for byte.
-pub(crate) fn same(a: &[u8], b: &[u8]) -> bool
-    ensures { result ≡ same_text a.now b.now }
+// Where a byte stands first in a text; the end where it does not, and no Option: `index_of` says the end, and `fit_row` takes the text before it.
+#[tactic(auto, using(crate::proofs::TextLaws::index_found, crate::proofs::TextLaws::index_inside))]
+pub(crate) fn find(text: &[u8], mark: u8) -> usize
+    ensures value { result ≡ index_of mark text.now }
+    ensures inside { result ≤ length text.now }
 {
-    if a.len() != b.len() {
-        return false;
-    }
-    let mut i = 0;
-    while i < a.len() {
-        if a[i] != b[i] {
-            return false;
-        }
-        i += 1;
-    }
-    true
+    first(text, mark).unwrap_or(text.len())
 }

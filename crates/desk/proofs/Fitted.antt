@@ -16,13 +16,13 @@ use Rattle.commands.specs.Kinds as kind
 use Rattle.commands.specs.Taken.{Within}
 use Rattle.tasks.specs.declared.sets.Set.{Set}
 use Rattle.tasks.proofs.Valid.{passed_valid}
-use Rattle.table_file.specs.declared.opener.Opened.{Opened}
-use Rattle.table_file.specs.declared.opener.Opened.TheVariants.{Opens, Refused}
+use Rattle.std.specs.Prelude.{Result, Ok, Err}
+use Rattle.tasks.specs.declared.refusals.Refusal.{Refusal}
 use Rattle.table_file.specs.Files.{header_length}
 use Rattle.table_file.specs.Open.{open_of, part_of, handed}
 use Rattle.table_file.proofs.Opening.{opening}
 use Rattle.desk_buffers.specs.Buffers.{Buffers, length_after, buffers_after}
-use Rattle.desk.specs.After.{opened_length, built, written, opened, printed, tables_after, Held, held_of, no_desk, set_held, run_held, buffer_held, tables_held, command_after}
+use Rattle.desk.specs.After.{opened_length, built, written, opened, printed, tables_after, Held, no_desk, set_held, run_held, buffer_held, tables_held, command_after}
 use Rattle.desk.specs.Fitted.{Fitted}
 
 -- ONE BUFFER
@@ -84,11 +84,11 @@ module _ (c : Command) (line : List ℕ) (b : Buffers) (w : Within b.lengths c) 
 opened_fits : (s : Set) (file : List ℕ) (n : ℕ) → n ≤ table_most → opened_length (open_of s file) (handed s file) n ≤ table_most
 opened_fits s file n h = step (open_of s file) refl
   where
-    step : (o : Opened) → open_of s file ≡ o → opened_length o (part_of s file o) n ≤ table_most
-    step Opens e =
+    step : (o : Result Unit Refusal) → open_of s file ≡ o → opened_length o (part_of s file o) n ≤ table_most
+    step (Ok u) e =
         let v = opening s file e in
         omega (arith, v.long, length-drop (header_length s) file, (passed_valid s v.set).states)
-    step (Refused r) e = h
+    step (Err r) e = h
 
 tables_fitted : (b : Buffers) (s : Set) (k : ℕ) → Fitted b.lengths → Fitted (tables_after b s k).lengths
 unfolding tables_after
@@ -110,7 +110,7 @@ command_fitted c line h w f = step (eqb c.kind kind.reset) (leb c.kind kind.text
   where
     step : (t u v x : Bool) →
         Fitted
-        (cond t (held_of no_desk h.buffers.table h.buffers.work h.buffers.file h.buffers.text)
+        (cond t (no_desk h.buffers.table h.buffers.work h.buffers.file h.buffers.text)
         (cond u (buffer_held c.kind c.values line h)
         (cond v (set_held c.kind c.values line h)
         (cond x (tables_held c.kind c.values line h) (run_held c.kind c.values line h))))).buffers.lengths

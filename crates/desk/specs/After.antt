@@ -1,13 +1,12 @@
 -- What a command leaves of all that is held.
-use Rattle.std.specs.Prelude.{cond, List, ◌++◌, ℕ, min, eqb, leb, length, take, drop}
+use Rattle.std.specs.Prelude.{◌≡◌, cond, List, ◌++◌, ℕ, min, eqb, leb, length, take, drop, Result, Ok, Err}
 use Rattle.commands.specs.declared.buffers.Lengths.{Lengths}
 use Rattle.commands.specs.declared.forms.Values.{Values}
 use Rattle.commands.specs.Kinds as kind
 use Rattle.tasks.specs.declared.sets.Set.{Set}
 use Rattle.tasks.specs.Sets.{no_set}
 use Rattle.shield.specs.Build.{build_of, table_built, work_built}
-use Rattle.table_file.specs.declared.opener.Opened.{Opened}
-use Rattle.table_file.specs.declared.opener.Opened.TheVariants.{Opens, Refused}
+use Rattle.tasks.specs.declared.refusals.Refusal.{Refusal}
 use Rattle.table_file.specs.Write.{write_of, file_written}
 use Rattle.table_file.specs.Open.{open_of, handed}
 use Rattle.reporter.specs.Report.{Left, report_of}
@@ -15,7 +14,7 @@ use Rattle.guard.specs.declared.runs.Run.{Run}
 use Rattle.guard.specs.Runs.{start_run}
 use Rattle.desk.specs.declared.Desk.{Desk}
 use Rattle.desk_buffers.specs.Bytes.{put_at}
-use Rattle.desk_buffers.specs.Buffers.{Buffers, buffers_of, buffers_after}
+use Rattle.desk_buffers.specs.Buffers.{Buffers, buffers_of, held_in, Same, buffers_after}
 use Rattle.desk.specs.Steps.{set_after, text_after, run_after}
 
 -- TABLE AND FILE
@@ -32,13 +31,13 @@ abbrev pub file_after : Set → List ℕ → List ℕ → List ℕ
 file_after s t f = file_written s t (write_of s t (length f)) f
 
 -- `open`: the part handed back becomes the table; refused, the table stays
-abbrev pub opened_length : Opened → List ℕ → ℕ → ℕ
-opened_length Opens part n = min (length part) 4294967295
-opened_length (Refused f) part n = n
+abbrev pub opened_length : Result Unit Refusal → List ℕ → ℕ → ℕ
+opened_length (Ok _) part n = min (length part) 4294967295
+opened_length (Err f) part n = n
 
-abbrev pub opened_table : Opened → List ℕ → List ℕ → List ℕ
-opened_table Opens part t = put_at 0 part t
-opened_table (Refused f) part t = t
+abbrev pub opened_table : Result Unit Refusal → List ℕ → List ℕ → List ℕ
+opened_table (Ok _) part t = put_at 0 part t
+opened_table (Err f) part t = t
 
 -- the buffers, lent with their present lengths
 module _ (b : Buffers) where
@@ -89,15 +88,21 @@ pub record Held : Type 0 where
   pub run : Run
   pub buffers : Buffers
 
-abbrev pub held_of : Desk → List ℕ → List ℕ → List ℕ → List ℕ → Held
-held_of d t w f x = record { set = d.set; run = d.run; buffers = buffers_of d.lengths t w f x }
+-- what a desk holds
+abbrev pub held_of : Desk → Held
+held_of d = record { set = d.set; run = d.run; buffers = held_in d.buffers }
+
+-- the desk d has become e, over the same four buffers, and holds h
+pub record Leaves (d e : Desk) (h : Held) : Type 0 where
+  pub same : Same d.buffers e.buffers
+  pub holds : held_of e ≡ h
 
 -- everything as at the beginning: bytes that no buffer has do not count
 abbrev pub no_lengths : Lengths
 no_lengths = record { table = 0; work = 0; file = 0; text = 0 }
 
-abbrev pub no_desk : Desk
-no_desk = record { set = no_set; run = start_run 0 0; lengths = no_lengths }
+abbrev pub no_desk : List ℕ → List ℕ → List ℕ → List ℕ → Held
+no_desk t w f x = record { set = no_set; run = start_run 0 0; buffers = buffers_of no_lengths t w f x }
 
 module _ (k : ℕ) (vs : Values) (line : List ℕ) (h : Held) where
   abbrev b : Buffers
@@ -124,7 +129,7 @@ module _ (k : ℕ) (vs : Values) (line : List ℕ) (h : Held) where
   -- the kinds stand in groups: reset; buffers; set and sheet; table and file; run
   unfoldable pub command_after : Held
   command_after =
-      cond (eqb k kind.reset) (held_of no_desk b.table b.work b.file b.text)
+      cond (eqb k kind.reset) (no_desk b.table b.work b.file b.text)
       (cond (leb k kind.text) buffer_held
       (cond (leb k kind.test_set) set_held
       (cond (leb k kind.print) tables_held run_held)))

@@ -1,5 +1,5 @@
 -- What a command that sets a field makes of the set and of the run.
-use Rattle.std.specs.Prelude.{Bool, cond, List, ℕ, ◌-◌, ◌%◌, eqb, get_or, set, drop}
+use Rattle.std.specs.Prelude.{Bool, cond, List, ℕ, ◌-◌, ◌%◌, eqb, get_or, set, drop, Option, Some, None}
 use Rattle.commands.specs.Kinds as kind
 use Rattle.tasks.specs.declared.sets.Task.{Task}
 use Rattle.tasks.specs.declared.sets.Set.{Set}
@@ -8,8 +8,6 @@ use Rattle.game.specs.declared.states.Job.TheVariants.{Empty, InHand}
 use Rattle.game.specs.declared.states.TaskState.{TaskState}
 use Rattle.game.specs.States.{no_state}
 use Rattle.guard.specs.declared.runs.Counts.{Counts}
-use Rattle.guard.specs.declared.runs.Awaited.{Awaited}
-use Rattle.guard.specs.declared.runs.Awaited.TheVariants.{Nothing, Choice}
 use Rattle.guard.specs.declared.runs.Run.{Run}
 use Rattle.guard.specs.Runs.{no_counts}
 use Rattle.desk_buffers.specs.Bytes.{put_at, said}
@@ -77,7 +75,7 @@ place_set k i v r =
     })
     r
 
-abbrev pub awaited_set : Awaited → Run → Run
+abbrev pub awaited_set : Option ℕ → Run → Run
 awaited_set w r = record { states = r.states; counts = r.counts; ticks = r.ticks; substitutions = r.substitutions; reading = r.reading; awaited = w }
 
 abbrev pub ticks_set : ℕ → Run → Run
@@ -95,6 +93,6 @@ run_with k a b r =
     cond (eqb k kind.ticks) (ticks_set a r)
     (cond (eqb k kind.substitutions) (substitutions_set a r)
     (cond (eqb k kind.reading) (reading_set a r)
-    (cond (eqb k kind.awaited) (awaited_set (Choice (a % 256)) r)
-    (cond (eqb k kind.nothing_awaited) (awaited_set Nothing r)
+    (cond (eqb k kind.awaited) (awaited_set (Some (a % 256)) r)
+    (cond (eqb k kind.nothing_awaited) (awaited_set None r)
     (place_set k a b r)))))

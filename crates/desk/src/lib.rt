@@ -8,76 +8,85 @@ mod set_fields;
 mod table_commands;
 
 ghost use Rattle.std.specs.Prelude.{◌≡◌};
-ghost use Rattle.desk.specs.After.{no_desk, held_of, command_after};
+ghost use Rattle.desk.specs.After.{held_of, Leaves, no_desk, command_after};
 
 use commands::buffers::Lengths;
 use commands::kinds;
 use commands::lines::Command;
-use desk_buffers::say;
+use desk_buffers::{Buffers, say};
 use guard::runs;
 use guard::runs::Run;
+use tasks::refusals::Refusal;
 use tasks::sets;
 use tasks::sets::Set;
 
-// What is held beside the bytes of the buffers.
-#[derive(Clone, Copy)]
-pub struct Desk {
+// All that is held: a set, a run, and four lent buffers.
+#[derive(Drop)]
+pub struct Desk<'a> {
     pub set: Set,
     pub run: Run,
-    pub lengths: Lengths,
+    pub buffers: Buffers<'a>,
 }
 
-// Everything as at the beginning.
-pub fn fresh() -> Desk
-    ensures { result ≡ no_desk }
+const NO_LENGTHS: Lengths = Lengths {
+    table: 0,
+    work: 0,
+    file: 0,
+    text: 0,
+};
+
+// Everything as at the beginning, over these four buffers.
+pub fn fresh<'a>(
+    table: &'a mut [u8],
+    work: &'a mut [u8],
+    file: &'a mut [u8],
+    text: &'a mut [u8],
+) -> Desk<'a>
+    ensures same_table { result.buffers.table.ghost_name ≡ table.entry.ghost_name }
+    ensures same_work { result.buffers.work.ghost_name ≡ work.entry.ghost_name }
+    ensures same_file { result.buffers.file.ghost_name ≡ file.entry.ghost_name }
+    ensures same_text { result.buffers.text.ghost_name ≡ text.entry.ghost_name }
+    ensures value { held_of result ≡ no_desk table.old work.old file.old text.old }
 {
-    let set = sets::no_set();
-    let run = runs::fresh_run(0, 0);
     Desk {
-        set: set,
-        run: run,
-        lengths: Lengths {
-            table: 0,
-            work: 0,
-            file: 0,
-            text: 0,
+        set: sets::no_set(),
+        run: runs::fresh_run(0, 0),
+        buffers: Buffers {
+            table,
+            work,
+            file,
+            text,
+            lengths: NO_LENGTHS,
         },
     }
 }
 
-// A command, and the desk after it.
-pub fn carry_out(
-    rt: &impl Print,
-    c: Command,
-    line: &[u8],
-    d: Desk,
-    table: &mut [u8],
-    work: &mut [u8],
-    file: &mut [u8],
-    text: &mut [u8],
-) -> Desk
-    ensures { held_of result table.new work.new file.new text.new ≡ command_after c.kind c.values line.now (held_of d table.old work.old file.old text.old) }
+// What a call that answers nothing else is said to have answered.
+fn answer(rt: &impl Print, answer: Result<(), Refusal>) {
+    match answer {
+        Ok(()) => say::ok(rt),
+        Err(f) => say::refused(rt, f.number(), f.place),
+    }
+}
+
+// A command.
+#[tactic(auto, unfolding(crate::specs::After::command_after))]
+pub fn carry_out(rt: &impl Print, c: Command, line: &[u8], d: &mut Desk<'_>)
+    ensures { Leaves d.old d.new (command_after c.kind c.values line.now (held_of d.old)) }
 {
-    let mut after = d;
-    let set = d.set;
-    let run = d.run;
-    let l = d.lengths;
-    if c.kind == kinds::RESET {
-        say::ok(rt);
-        return fresh();
+    match c.kind {
+        kinds::RESET => {
+            say::ok(rt);
+            d.set = sets::no_set();
+            d.run = runs::fresh_run(0, 0);
+            d.buffers.lengths = NO_LENGTHS;
+        }
+        kinds::FILL..=kinds::TEXT => desk_buffers::carry_out(rt, c, line, &mut d.buffers),
+        kinds::READ..=kinds::TEST_SET => {
+            let n = d.buffers.lengths.text;
+            d.set = set_commands::carry_out(rt, c, line, d.set, n, d.buffers.text);
+        }
+        kinds::BUILD..=kinds::PRINT => table_commands::carry_out(rt, c, d.set, &mut d.buffers),
+        _ => d.run = run_commands::carry_out(rt, c, d),
     }
-    if c.kind <= kinds::TEXT {
-        after.lengths = desk_buffers::carry_out(rt, c, line, l, table, work, file, text);
-        return after;
-    }
-    if c.kind <= kinds::TEST_SET {
-        after.set = set_commands::carry_out(rt, c, line, set, l.text, text);
-        return after;
-    }
-    if c.kind <= kinds::PRINT {
-        after.lengths = table_commands::carry_out(rt, c, set, l, table, work, file, text);
-        return after;
-    }
-    after.run = run_commands::carry_out(rt, c, set, run, l.table, table);
-    after
 }

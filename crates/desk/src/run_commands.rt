@@ -5,29 +5,21 @@ ghost use Rattle.guard.specs.Ask.{ask_of};
 ghost use Rattle.guard.specs.Report.{report_of};
 ghost use Rattle.desk.specs.Steps.{run_after};
 
-use crate::run_fields;
+use crate::{Desk, run_fields};
 use commands::kinds;
 use commands::lines::Command;
 use desk_buffers::{bytes, say};
 use game::states::{Job, TaskState};
-use guard::asks::Chosen;
-use guard::runs::{Awaited, Counts, Run, Taken};
+use guard::runs::{Counts, Run};
 use guard::{asks, reports, runs};
+use printing::{put, put_number};
 use tasks::sets::Set;
-
-fn answer(rt: &impl Print, taken: Taken) {
-    match taken {
-        Taken::Done => say::ok(rt),
-        Taken::Refused(f) => say::refused(rt, f),
-    }
-}
 
 fn start(rt: &impl Print, s: Set, reading: u32) -> Run
     ensures { result ≡ (start_of s reading).run }
 {
     let started = runs::start(s, reading);
-    let taken = started.answer;
-    answer(rt, taken);
+    crate::answer(rt, started.answer);
     started.run
 }
 
@@ -35,10 +27,9 @@ fn ask(rt: &impl Print, s: Set, table: &[u8], r: Run, proposal: u8) -> Run
     ensures { result ≡ (ask_of s table.now r proposal).run }
 {
     let asked = asks::ask(s, table, r, proposal);
-    let chosen = asked.answer;
-    match chosen {
-        Chosen::Choice(c) => say::last(rt, b"choice ", c as u64),
-        Chosen::Refused(f) => say::refused(rt, f),
+    match asked.answer {
+        Ok(c) => say::last(rt, b"choice ", c),
+        Err(f) => say::refused(rt, f.number(), f.place),
     }
     asked.run
 }
@@ -47,69 +38,65 @@ fn report(rt: &impl Print, s: Set, r: Run, reading: u32, finished: bool, arrival
     ensures { result ≡ (report_of s r reading finished arrivals).run }
 {
     let reported = reports::report(s, r, reading, finished, arrivals);
-    let taken = reported.answer;
-    answer(rt, taken);
+    crate::answer(rt, reported.answer);
     reported.run
 }
 
 fn show_job(rt: &impl Print, job: Job) {
     match job {
-        Job::Empty => say::say(rt, b" none"),
-        Job::InHand(g) => say::number(rt, b" ", g as u64),
+        Job::Empty => put(rt, b" none"),
+        Job::InHand(g) => put_number(rt, b" ", g),
     }
 }
 
 fn show_place(rt: &impl Print, x: TaskState, n: Counts) {
-    say::number(rt, b" ", x.age as u64);
-    let job = x.job;
-    show_job(rt, job);
-    say::number(rt, b" ", n.arrived as u64);
-    say::number(rt, b" ", n.finished as u64);
-    say::number(rt, b" ", n.replaced as u64);
+    put_number(rt, b" ", x.age);
+    show_job(rt, x.job);
+    put_number(rt, b" ", n.arrived);
+    put_number(rt, b" ", n.finished);
+    put_number(rt, b" ", n.replaced);
 }
 
-fn show_awaited(rt: &impl Print, awaited: Awaited) {
+fn show_awaited(rt: &impl Print, awaited: Option<u8>) {
     match awaited {
-        Awaited::Nothing => say::say(rt, b" none"),
-        Awaited::Choice(c) => say::number(rt, b" ", c as u64),
+        None => put(rt, b" none"),
+        Some(c) => put_number(rt, b" ", c),
     }
 }
 
 fn show(rt: &impl Print, r: Run) {
-    say::number(rt, b"run ", r.reading as u64);
-    say::number(rt, b" ", r.ticks as u64);
-    say::number(rt, b" ", r.substitutions as u64);
-    let awaited = r.awaited;
-    show_awaited(rt, awaited);
-    let mut i = 0;
-    while i < 7 {
-        let x = r.states[i];
-        let n = r.counts[i];
-        show_place(rt, x, n);
-        i += 1;
+    put_number(rt, b"run ", r.reading);
+    put_number(rt, b" ", r.ticks);
+    put_number(rt, b" ", r.substitutions);
+    show_awaited(rt, r.awaited);
+    for i in 0..7 {
+        show_place(rt, r.states[i], r.counts[i]);
     }
-    say::say(rt, b"\n");
+    put(rt, b"\n");
 }
 
-// A command on the run, and the run after it; n is the length of the table.
-pub fn carry_out(rt: &impl Print, c: Command, s: Set, r: Run, n: u32, table: &[u8]) -> Run
-    ensures { result ≡ run_after c.kind c.values s (take n table.now) r }
+// A command on the run, and the run after it.
+#[tactic(auto, unfolding(crate::specs::Steps::run_after))]
+pub fn carry_out(rt: &impl Print, c: Command, d: &Desk<'_>) -> Run
+    ensures { result ≡ run_after c.kind c.values d.now.set (take d.now.buffers.lengths.table d.now.buffers.table.now) d.now.run }
 {
     let vs = c.values;
-    if c.kind == kinds::START {
-        return start(rt, s, vs.first);
+    let s = d.set;
+    let r = d.run;
+    match c.kind {
+        kinds::START => start(rt, s, vs.first),
+        kinds::ASK => {
+            let table = bytes::first(d.buffers.lengths.table, d.buffers.table);
+            ask(rt, s, table, r, bytes::byte(vs.first))
+        }
+        kinds::REPORT => report(rt, s, r, vs.first, vs.second == 1, bytes::byte(vs.third)),
+        kinds::SHOW_RUN => {
+            show(rt, r);
+            r
+        }
+        _ => {
+            say::ok(rt);
+            run_fields::with(r, c.kind, vs.first, vs.second)
+        }
     }
-    if c.kind == kinds::ASK {
-        let end = bytes::within(n, table);
-        return ask(rt, s, &table[..end], r, bytes::byte(vs.first));
-    }
-    if c.kind == kinds::REPORT {
-        return report(rt, s, r, vs.first, vs.second == 1, bytes::byte(vs.third));
-    }
-    if c.kind == kinds::SHOW_RUN {
-        show(rt, r);
-        return r;
-    }
-    say::ok(rt);
-    run_fields::with(r, c.kind, vs.first, vs.second)
 }

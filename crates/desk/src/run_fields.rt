@@ -1,66 +1,53 @@
 // A run with one field set.
 ghost use Rattle.std.specs.Prelude.{◌≡◌};
-ghost use Rattle.desk.specs.Fields.{state_with, counts_with, place_set, awaited_set, run_with};
+ghost use Rattle.desk.specs.Fields.{state_with, counts_with, place_set, run_with};
 
 use commands::kinds;
 use desk_buffers::bytes;
 use game::states::{Job, TaskState};
-use guard::runs::{Awaited, Counts, Run};
+use guard::runs::{Counts, Run};
 
 // A task's state with its age or its job set, by the kind of the command.
+#[tactic(auto, unfolding(crate::specs::Fields::state_with))]
 fn with_state(x: TaskState, kind: usize, v: u32) -> TaskState
     ensures { result ≡ state_with kind v x }
 {
-    let job = x.job;
-    if kind == kinds::AGE {
-        return TaskState {
+    match kind {
+        kinds::AGE => TaskState {
             age: bytes::byte(v),
-            job: job,
-        };
-    }
-    if kind == kinds::JOB {
-        return TaskState {
-            age: x.age,
+            ..x
+        },
+        kinds::JOB => TaskState {
             job: Job::InHand(bytes::byte(v)),
-        };
-    }
-    if kind == kinds::NO_JOB {
-        return TaskState {
-            age: x.age,
+            ..x
+        },
+        kinds::NO_JOB => TaskState {
             job: Job::Empty,
-        };
+            ..x
+        },
+        _ => x,
     }
-    x
 }
 
 // A task's counts with one set.
+#[tactic(auto, unfolding(crate::specs::Fields::counts_with))]
 fn with_count(n: Counts, kind: usize, v: u32) -> Counts
     ensures { result ≡ counts_with kind v n }
 {
-    let mut r = n;
-    if kind == kinds::ARRIVED {
-        r.arrived = v;
-        return r;
+    match kind {
+        kinds::ARRIVED => Counts { arrived: v, ..n },
+        kinds::FINISHED => Counts { finished: v, ..n },
+        kinds::REPLACED => Counts { replaced: v, ..n },
+        _ => n,
     }
-    if kind == kinds::FINISHED {
-        r.finished = v;
-        return r;
-    }
-    if kind == kinds::REPLACED {
-        r.replaced = v;
-        return r;
-    }
-    r
 }
 
 // The run with a field of task i's place set.
+#[tactic(auto, unfolding(crate::specs::Fields::place_set))]
 fn with_place(r: Run, kind: usize, i: u32, v: u32) -> Run
     ensures { result ≡ place_set kind i v r }
 {
-    if i < 1 {
-        return r;
-    }
-    if 7 < i {
+    if !(1..=7).contains(&i) {
         return r;
     }
     let at = i as usize - 1;
@@ -72,44 +59,23 @@ fn with_place(r: Run, kind: usize, i: u32, v: u32) -> Run
     q
 }
 
-// The run with what is awaited.
-fn with_awaited(r: Run, awaited: Awaited) -> Run
-    ensures { result ≡ awaited_set awaited r }
-{
-    let xs = r.states;
-    let ns = r.counts;
-    Run {
-        states: xs,
-        counts: ns,
-        ticks: r.ticks,
-        substitutions: r.substitutions,
-        reading: r.reading,
-        awaited: awaited,
-    }
-}
-
 // The run with the field set that the kind of the command names.
+#[tactic(auto, unfolding(crate::specs::Fields::run_with))]
 pub fn with(r: Run, kind: usize, a: u32, b: u32) -> Run
     ensures { result ≡ run_with kind a b r }
 {
-    let mut q = r;
-    if kind == kinds::TICKS {
-        q.ticks = a;
-        return q;
+    match kind {
+        kinds::TICKS => Run { ticks: a, ..r },
+        kinds::SUBSTITUTIONS => Run {
+            substitutions: a,
+            ..r
+        },
+        kinds::READING => Run { reading: a, ..r },
+        kinds::AWAITED => Run {
+            awaited: Some(bytes::byte(a)),
+            ..r
+        },
+        kinds::NOTHING_AWAITED => Run { awaited: None, ..r },
+        _ => with_place(r, kind, a, b),
     }
-    if kind == kinds::SUBSTITUTIONS {
-        q.substitutions = a;
-        return q;
-    }
-    if kind == kinds::READING {
-        q.reading = a;
-        return q;
-    }
-    if kind == kinds::AWAITED {
-        return with_awaited(r, Awaited::Choice(bytes::byte(a)));
-    }
-    if kind == kinds::NOTHING_AWAITED {
-        return with_awaited(r, Awaited::Nothing);
-    }
-    with_place(r, kind, a, b)
 }

@@ -14,37 +14,31 @@ fn half(n: u32) -> u16
 }
 
 // The task record with the field that the kind of the command names.
+#[tactic(auto, unfolding(crate::specs::Fields::task_with))]
 fn with_field(t: Task, kind: usize, v: u32) -> Task
     ensures { result ≡ task_with kind v t }
 {
-    let mut r = t;
-    if kind == kinds::KIND {
-        r.kind = bytes::byte(v);
-        return r;
+    match kind {
+        kinds::KIND => Task {
+            kind: bytes::byte(v),
+            ..t
+        },
+        kinds::DEADLINE => Task {
+            deadline: bytes::byte(v),
+            ..t
+        },
+        kinds::RUNS => Task { runs: half(v), ..t },
+        kinds::GAPS => Task { gaps: half(v), ..t },
+        _ => t,
     }
-    if kind == kinds::DEADLINE {
-        r.deadline = bytes::byte(v);
-        return r;
-    }
-    if kind == kinds::RUNS {
-        r.runs = half(v);
-        return r;
-    }
-    if kind == kinds::GAPS {
-        r.gaps = half(v);
-        return r;
-    }
-    r
 }
 
-// The set with a field of task i's record.
+// The set with a field of task i's record. No one function with `run_fields::with_place`: that sets two arrays of a run, by another definition.
+#[tactic(auto, unfolding(crate::specs::Fields::task_set))]
 fn with_task(s: Set, kind: usize, i: u32, v: u32) -> Set
     ensures { result ≡ task_set kind i v s }
 {
-    if i < 1 {
-        return s;
-    }
-    if 7 < i {
+    if !(1..=7).contains(&i) {
         return s;
     }
     let at = i as usize - 1;
@@ -55,14 +49,13 @@ fn with_task(s: Set, kind: usize, i: u32, v: u32) -> Set
 }
 
 // The set with the name that a word says.
+#[tactic(auto, using(desk_buffers::proofs::BytesLaws::said_next, desk_buffers::proofs::BytesLaws::said_end))]
 fn with_name(s: Set, word: &[u8]) -> Set
     ensures { result ≡ name_set word.now s }
 {
     let mut r = s;
-    let mut i = 0;
-    while i < 16 {
+    for i in 0..16 {
         r.name[i] = hexadecimal::byte(word, i);
-        i += 1;
     }
     r
 }
@@ -70,20 +63,20 @@ fn with_name(s: Set, word: &[u8]) -> Set
 fn with_count(s: Set, v: u32) -> Set
     ensures { result ≡ count_set v s }
 {
-    let mut r = s;
-    r.count = bytes::byte(v);
-    r
+    Set {
+        count: bytes::byte(v),
+        ..s
+    }
 }
 
 // The set with the field that the kind of the command names; a name stands behind the line's first five bytes.
+#[tactic(auto, unfolding(crate::specs::Fields::set_with))]
 pub fn with(s: Set, kind: usize, a: u32, b: u32, line: &[u8]) -> Set
     ensures { result ≡ set_with kind a b line.now s }
 {
-    if kind == kinds::NAME {
-        return with_name(s, bytes::behind(line));
+    match kind {
+        kinds::NAME => with_name(s, bytes::behind(line)),
+        kinds::COUNT => with_count(s, a),
+        _ => with_task(s, kind, a, b),
     }
-    if kind == kinds::COUNT {
-        return with_count(s, a);
-    }
-    with_task(s, kind, a, b)
 }

@@ -3,56 +3,45 @@ ghost use Rattle.std.specs.Prelude.{◌≡◌, min, length};
 ghost use Rattle.table_file.specs.Open.{open_of, handed};
 ghost use Rattle.reporter.specs.Report.{report_of};
 ghost use Rattle.desk_buffers.specs.Bytes.{put_at};
-ghost use Rattle.desk_buffers.specs.Buffers.{buffers_of};
+ghost use Rattle.desk_buffers.specs.Buffers.{held_in, Become};
 ghost use Rattle.desk.specs.After.{built_table, built_work, file_after, opened_length, opened_table, tables_after};
 
-use commands::buffers::Lengths;
 use commands::kinds;
 use commands::lines::Command;
-use desk_buffers::{bytes, say};
-use reporter::Reported;
-use shield::builder::Built;
-use shield::tester::Verdict;
+use desk_buffers::{Buffers, bytes, say};
+use printing::{put, put_number};
 use shield::{builder, tester};
-use table_file::opener::Opened;
-use table_file::writer::Written;
 use table_file::{opener, writer};
 use tasks::sets::Set;
 
+#[tactic(auto, using(crate::proofs::StepLaws::built_leaves))]
 fn build(rt: &impl Print, s: Set, table: &mut [u8], work: &mut [u8])
     ensures table_after { table.new ≡ built_table s table.old work.old }
     ensures work_after { work.new ≡ built_work s table.old work.old }
 {
-    let built = builder::build(s, table, work);
-    match built {
-        Built::Done {
-            safe,
-            rounds,
-            start,
-        } => {
-            say::number(rt, b"shield ", safe as u64);
-            say::number(rt, b" ", rounds as u64);
-            say::last(rt, b" ", start as u64);
+    match builder::build(s, table, work) {
+        Ok(built) => {
+            put_number(rt, b"shield ", built.safe);
+            put_number(rt, b" ", built.rounds);
+            say::last(rt, b" ", built.start);
         }
-        Built::Refused(f) => say::refused(rt, f),
+        Err(f) => say::refused(rt, f.number(), f.place),
     }
 }
 
 fn test(rt: &impl Print, s: Set, table: &[u8]) {
-    let verdict = tester::test(s, table);
-    match verdict {
-        Verdict::Passes => say::say(rt, b"passed\n"),
-        Verdict::Refused(f) => say::refused(rt, f),
+    match tester::test(s, table) {
+        Ok(()) => put(rt, b"passed\n"),
+        Err(f) => say::refused(rt, f.number(), f.place),
     }
 }
 
 fn write(rt: &impl Print, s: Set, table: &[u8], file: &mut [u8])
     ensures { file.new ≡ file_after s table.now file.old }
 {
-    let written = writer::write(s, table, file);
-    match written {
-        Written::Length(n) => say::last(rt, b"file ", n as u64),
-        Written::Refused(f) => say::refused(rt, f),
+    match writer::write(s, table, file) {
+        Ok(n) => say::last(rt, b"file ", n),
+        Err(f) => say::refused(rt, f.number(), f.place),
     }
 }
 
@@ -63,8 +52,8 @@ fn take(rt: &impl Print, part: &[u8], table: &mut [u8]) -> u32
 {
     let n = bytes::size(part);
     bytes::copy(part, table);
-    say::number(rt, b"part ", n as u64);
-    say::last(rt, b" ", bytes::adler(part) as u64);
+    put_number(rt, b"part ", n);
+    say::last(rt, b" ", bytes::adler(part));
     n
 }
 
@@ -73,11 +62,10 @@ fn open(rt: &impl Print, s: Set, file: &[u8], n: u32, table: &mut [u8]) -> u32
     ensures value { result ≡ opened_length (open_of s file.now) (handed s file.now) n }
     ensures table_after { table.new ≡ opened_table (open_of s file.now) (handed s file.now) table.old }
 {
-    let opened = opener::verdict(s, file);
-    match opened {
-        Opened::Opens => take(rt, opener::open(s, file), table),
-        Opened::Refused(f) => {
-            say::refused(rt, f);
+    match opener::verdict(s, file) {
+        Ok(()) => take(rt, opener::open(s, file), table),
+        Err(f) => {
+            say::refused(rt, f.number(), f.place);
             n
         }
     }
@@ -89,53 +77,36 @@ fn print(rt: &impl Print, text: &[u8], table: &mut [u8], work: &mut [u8], file: 
     ensures work_after { work.new ≡ (report_of text.now table.old work.old file.old).work }
     ensures file_after { file.new ≡ (report_of text.now table.old work.old file.old).output }
 {
-    let reported = reporter::report(text, table, work, file);
-    match reported {
-        Reported::Length(n) => say::written(rt, b"report ", n, file),
-        Reported::Refused(f) => say::refused(rt, f),
+    match reporter::report(text, table, work, file) {
+        Ok(n) => say::written(rt, b"report ", n, file),
+        Err(f) => say::refused(rt, f.number(), f.place),
     }
 }
 
-// A command on the table or the file, and the lengths after it.
-pub fn carry_out(
-    rt: &impl Print,
-    c: Command,
-    s: Set,
-    l: Lengths,
-    table: &mut [u8],
-    work: &mut [u8],
-    file: &mut [u8],
-    text: &[u8],
-) -> Lengths
-    ensures { buffers_of result table.new work.new file.new text.now ≡ tables_after (buffers_of l table.old work.old file.old text.now) s c.kind }
+// A command on the table or the file.
+#[tactic(auto, unfolding(crate::specs::After::tables_after), using(desk_buffers::proofs::BytesLaws::within_take, desk_buffers::proofs::BytesLaws::within_drop))]
+pub fn carry_out(rt: &impl Print, c: Command, s: Set, b: &mut Buffers<'_>)
+    ensures { Become b.old b.new (tables_after (held_in b.old) s c.kind) }
 {
+    let l = b.lengths;
+    let table = &mut *b.table;
+    let work = &mut *b.work;
+    let file = &mut *b.file;
+    let text = &mut *b.text;
     let t = bytes::within(l.table, table);
     let w = bytes::within(l.work, work);
     let f = bytes::within(l.file, file);
-    let mut after = l;
-    if c.kind == kinds::BUILD {
-        build(rt, s, &mut table[..t], &mut work[..w]);
-        return after;
+    match c.kind {
+        kinds::BUILD => build(rt, s, &mut table[..t], &mut work[..w]),
+        kinds::TEST_TABLE => test(rt, s, bytes::first(l.table, table)),
+        kinds::WRITE => write(rt, s, bytes::first(l.table, table), &mut file[..f]),
+        kinds::OPEN => b.lengths.table = open(rt, s, bytes::first(l.file, file), l.table, table),
+        _ => print(
+            rt,
+            bytes::first(l.text, text),
+            &mut table[..t],
+            &mut work[..w],
+            &mut file[..f],
+        ),
     }
-    if c.kind == kinds::TEST_TABLE {
-        test(rt, s, &table[..t]);
-        return after;
-    }
-    if c.kind == kinds::WRITE {
-        write(rt, s, &table[..t], &mut file[..f]);
-        return after;
-    }
-    if c.kind == kinds::OPEN {
-        after.table = open(rt, s, &file[..f], l.table, table);
-        return after;
-    }
-    let x = bytes::within(l.text, text);
-    print(
-        rt,
-        &text[..x],
-        &mut table[..t],
-        &mut work[..w],
-        &mut file[..f],
-    );
-    after
 }

@@ -1,2 +1,1 @@
-mod BufferLaws
 pub mod BytesLaws

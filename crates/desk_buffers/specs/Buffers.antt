@@ -1,9 +1,10 @@
 -- What a command on a buffer leaves of the four.
-use Rattle.std.specs.Prelude.{ℕ, ◌+◌, ◌-◌, ◌%◌, ◌^◌, cond, ◌||◌, List, drop, ◌==◌, slice_set}
+use Rattle.std.specs.Prelude.{ℕ, ◌≡◌, ◌+◌, ◌-◌, ◌%◌, ◌^◌, cond, ◌||◌, List, drop, ◌==◌, slice_set}
 use Rattle.commands.specs.declared.buffers.Lengths.{Lengths}
 use Rattle.commands.specs.declared.forms.Values.{Values}
 use Rattle.commands.specs.Buffers as buffer
 use Rattle.commands.specs.Kinds as kind
+use Rattle.desk_buffers.specs.declared.Buffers as lent
 use Rattle.desk_buffers.specs.Bytes.{filled, put_at, said}
 
 -- one buffer of n bytes: its length, and its bytes
@@ -27,6 +28,22 @@ pub record Buffers : Type 0 where
 
 abbrev pub buffers_of : Lengths → List ℕ → List ℕ → List ℕ → List ℕ → Buffers
 buffers_of l t w f x = record { lengths = l; table = t; work = w; file = f; text = x }
+
+-- what lent buffers hold
+abbrev pub held_in : lent.Buffers → Buffers
+held_in b = buffers_of b.lengths b.table.now b.work.now b.file.now b.text.now
+
+-- lent buffers q are over the same memory as p
+pub record Same (p q : lent.Buffers) : Type 0 where
+  pub table : q.table.ghost_name ≡ p.table.ghost_name
+  pub work : q.work.ghost_name ≡ p.work.ghost_name
+  pub file : q.file.ghost_name ≡ p.file.ghost_name
+  pub text : q.text.ghost_name ≡ p.text.ghost_name
+
+-- the lent buffers p have become q, which hold b
+pub record Become (p q : lent.Buffers) (b : Buffers) : Type 0 where
+  pub same : Same p q
+  pub holds : held_in q ≡ b
 
 module _ (k : ℕ) (vs : Values) (line : List ℕ) (b : Buffers) where
   abbrev l : Lengths

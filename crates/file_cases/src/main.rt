@@ -1,36 +1,18 @@
 // Worked cases of the writer and the opener, a line each.
 #![tactic(auto)]
 
-use cases::lines::{put, put_bytes, put_number, put_refusal};
-use cases::sets::{V1, V2, V3, V16, example, hard, named, one, pair, soft};
+use cases::lines::{put, put_answer, put_bytes, put_label, put_number, put_taken};
+use cases::sets::{V1, V2, V3, V16, case_of, example, hard, named, pair, soft};
 use shield::builder;
-use table_file::opener::Opened;
-use table_file::writer::Written;
 use table_file::{opener, writer};
 use tasks::sets::Set;
 
 const PAIR_TABLE: [u8; 16] = [6, 5, 2, 5, 3, 1, 2, 1, 4, 4, 0, 4, 3, 1, 2, 1];
 
-fn put_written(rt: &impl Print, w: Written) {
-    match w {
-        Written::Length(n) => put_number(rt, b" length ", n as u64),
-        Written::Refused(f) => put_refusal(rt, f),
-    }
-}
-
-fn put_opened(rt: &impl Print, o: Opened) {
-    match o {
-        Opened::Opens => put(rt, b" opens"),
-        Opened::Refused(f) => put_refusal(rt, f),
-    }
-}
-
 // What the writer answers, and every byte of the file buffer.
 fn show_write(rt: &impl Print, label: &[u8], s: Set, table: &[u8], file: &mut [u8]) {
-    put(rt, b"write ");
-    put(rt, label);
-    put(rt, b":");
-    put_written(rt, writer::write(s, table, file));
+    put_label(rt, b"write ", label);
+    put_answer(rt, b" length ", writer::write(s, table, file));
     put(rt, b" file");
     put_bytes(rt, file);
     put(rt, b"\n");
@@ -38,64 +20,47 @@ fn show_write(rt: &impl Print, label: &[u8], s: Set, table: &[u8], file: &mut [u
 
 // What the opener answers, and the part that it hands back.
 fn show_open(rt: &impl Print, s: Set, file: &[u8]) {
-    put_opened(rt, opener::verdict(s, file));
+    put_taken(rt, b" opens", opener::verdict(s, file));
     put(rt, b" part");
     put_bytes(rt, opener::open(s, file));
     put(rt, b"\n");
 }
 
 fn show_labelled(rt: &impl Print, label: &[u8], s: Set, file: &[u8]) {
-    put(rt, b"open ");
-    put(rt, label);
-    put(rt, b":");
+    put_label(rt, b"open ", label);
     show_open(rt, s, file);
-}
-
-fn flip(b: u8) -> u8 {
-    255 - b
 }
 
 // Each byte in turn is changed, and put back.
 fn damage(rt: &impl Print, s: Set, file: &mut [u8]) {
-    let mut i = 0;
-    while i < file.len() {
+    for i in 0..file.len() {
         let old = file[i];
-        file[i] = flip(old);
-        put_number(rt, b"byte ", i as u64);
+        file[i] = 255 - old;
+        put_number(rt, b"byte ", i);
         put(rt, b":");
         show_open(rt, s, file);
         file[i] = old;
-        i += 1;
     }
 }
 
 // Each length from none to all.
 fn cut(rt: &impl Print, s: Set, file: &[u8]) {
-    let mut n = 0;
-    while n < file.len() {
-        show_cut(rt, s, file, n);
-        n += 1;
-    }
-    show_cut(rt, s, file, n);
-}
-
-fn show_cut(rt: &impl Print, s: Set, file: &[u8], n: usize) {
-    if n <= file.len() {
-        put_number(rt, b"first ", n as u64);
+    for n in 0..=file.len() {
+        put_number(rt, b"first ", n);
         put(rt, b":");
-        show_open(rt, s, &file[0..n]);
+        show_open(rt, s, &file[..n]);
     }
 }
 
 fn tight(name: [u8; 16]) -> Set {
-    named(name, one(hard(1, V1, V1)))
+    named(name, case_of([hard(1, V1, V1)]))
 }
 
 // 272 states: S and both lists have a high byte.
 fn wide() -> Set {
     named(
         *b"WIDE\0\0\0\0\0\0\0\0\0\0\0\0",
-        one(soft(16, V1 + V16, V16)),
+        case_of([soft(16, V1 + V16, V16)]),
     )
 }
 
@@ -134,7 +99,7 @@ fn refused_written(rt: &impl Print) {
     show_write(
         rt,
         b"hard 2 3 3, no bytes",
-        named(*b"LATE\0\0\0\0\0\0\0\0\0\0\0\0", one(hard(2, V3, V3))),
+        named(*b"LATE\0\0\0\0\0\0\0\0\0\0\0\0", case_of([hard(2, V3, V3)])),
         &[1; 0],
         &mut [170; 3],
     );
@@ -179,10 +144,30 @@ fn others_open(rt: &impl Print, name: [u8; 16], file: &[u8]) {
         tight(*b"ABCDEFGH\0\0\0\0\0\0\0\0"),
         file,
     );
-    show_labelled(rt, b"soft 1 1 1", named(name, one(soft(1, V1, V1))), file);
-    show_labelled(rt, b"hard 1 1 2", named(name, one(hard(1, V1, V2))), file);
-    show_labelled(rt, b"hard 1 1 16", named(name, one(hard(1, V1, V16))), file);
-    show_labelled(rt, b"hard 2 2 2", named(name, one(hard(2, V2, V2))), file);
+    show_labelled(
+        rt,
+        b"soft 1 1 1",
+        named(name, case_of([soft(1, V1, V1)])),
+        file,
+    );
+    show_labelled(
+        rt,
+        b"hard 1 1 2",
+        named(name, case_of([hard(1, V1, V2)])),
+        file,
+    );
+    show_labelled(
+        rt,
+        b"hard 1 1 16",
+        named(name, case_of([hard(1, V1, V16)])),
+        file,
+    );
+    show_labelled(
+        rt,
+        b"hard 2 2 2",
+        named(name, case_of([hard(2, V2, V2)])),
+        file,
+    );
     show_labelled(rt, b"PAIR", pair(), file);
 }
 
@@ -201,7 +186,7 @@ fn refused_opened(rt: &impl Print) {
     show_labelled(
         rt,
         b"hard 2 3 3, no bytes",
-        named(*b"LATE\0\0\0\0\0\0\0\0\0\0\0\0", one(hard(2, V3, V3))),
+        named(*b"LATE\0\0\0\0\0\0\0\0\0\0\0\0", case_of([hard(2, V3, V3)])),
         &[0; 0],
     );
     let mut longer = [170; 55];

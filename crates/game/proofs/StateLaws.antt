@@ -208,6 +208,25 @@ module _ (s : Set) where
         (λ j l. get_or-set_other d k j (rest % n) 0 (λ q. omega arith) ∙ all j l)
         (get_or-set_same d k (rest % n) 0 h ∙ ap₂ (λ (a b : ℕ). a % b) e m)
 
+-- at most seven tasks, and at most 16 values in each of their lists
+pub count_le : (s : Set) → Passed s → s.count ≤ 7
+count_le s p = (passed_valid s p).count.1
+
+-- a set that passes has states, and 60,000 at most
+pub states_some : (s : Set) → Passed s → 0 < states_of s
+states_some s p = states_pos s (passed_valid s p) s.count (omega arith)
+
+pub states_le : (s : Set) → Passed s → states_of s ≤ 60000
+states_le s p = (passed_valid s p).states
+
+-- a task of a set that passes has local numbers
+pub locals_some : (s : Set) → Passed s → (k : ℕ) → k < s.count → 0 < locals_of (task_at s k)
+locals_some s p k h = locals_pos (task_at s k) ((passed_valid s p).tasks k h)
+
+-- and at every index
+pub local_below : (s : Set) → Passed s → (i k : ℕ) → k < s.count → local_at s i k < locals_of (task_at s k)
+local_below s p i k h = local_at_lt s (passed_valid s p) i k h
+
 -- the two, of whole states
 pub state_index : (s : Set) → Passed s → (xs : List TaskState) → Ranged s xs s.count
     → (j : ℕ) → j < s.count → task_state_at s (index_of s xs) j ≡ state_at xs j

@@ -1,71 +1,60 @@
 -- Laws of the seven places, and of a run that fits. Assumes nothing.
-use Rattle.std.proofs.Common.{◌≡◌, ℕ, zero, suc, ◌+◌, ◌<◌, ◌≤◌, Bool, true, false, cond, not, ◌&&◌, T, eqb, ltb, leb, List, [], ◌∷◌, get_or, sym, refl, ap, subst, ap₂, ⊎_elim, arith, eqb→eq, ltb→lt, leb→le, le-ltb, lt-ltb, eq-eqb, le-leb}
-use borrow.Author.Tests.{lt-leb}
-use Rattle.arena.specs.Tests.{all_below, one, first}
-use Rattle.arena.proofs.Tests.{and_left, and_right, and_by, T_true, T_ext, lt_or_le, all_below_at, all_below_by}
+use Rattle.std.proofs.Common.{◌≡◌, ℕ, zero, suc, ◌+◌, ◌<◌, ◌≤◌, Bool, true, false, cond, not, ◌&&◌, T, eqb, ltb, leb, List, Option, Some, None, get_or, sym, refl, ap, ◌∙◌, subst, ap₂, ⊎_elim, arith, eqb→eq, ltb→lt, leb→le, le-ltb, lt-ltb, eq-eqb, le-leb}
+use Rattle.std.specs.Fn.{Called, Mut}
+use Rattle.std.specs.Iterator.{YieldsThen}
+use Rattle.std.specs.List.{FoldsTo, list_all, range_with_len}
+use Rattle.std.specs.Option.{MatchOption}
+use Rattle.std.specs.declared.ops.Range.{Range}
+use Rattle.std.proofs.iter.Yields.{nat_range_steps}
+use Rattle.std.proofs.lemmas.Iterator.{YieldsList-from_range}
+use Rattle.std.proofs.lemmas.Iterator.Search.{all_from_yields_List}
+use Rattle.arena.specs.Tests.{all_below, one}
+use Rattle.arena.proofs.Tests.{and_left, and_right, and_by, lt_or_le, all_below_at, all_below_by, all_below_cong}
 use Rattle.tasks.specs.declared.sets.Task.{Task}
 use Rattle.tasks.specs.declared.sets.Set.{Set}
-use Rattle.tasks.specs.Sets.{task_at, states_of}
+use Rattle.tasks.specs.Sets.{task_at, states_of, Passed}
 use Rattle.tasks.proofs.SetLaws.{within_both}
+use Rattle.tasks.proofs.Valid.{passed_valid}
 use Rattle.game.specs.declared.states.TaskState.{TaskState}
 use Rattle.game.specs.States.{in_range, state_at, index_of}
 use Rattle.game.specs.Ticks.{in_hand}
-use Rattle.game.proofs.StateLaws.{index_lt}
+use Rattle.game.proofs.StateLaws.{count_le, index_lt}
 use Rattle.guard.specs.declared.runs.Counts.{Counts}
-use Rattle.guard.specs.declared.runs.Awaited.{Awaited}
-use Rattle.guard.specs.declared.runs.Awaited.TheVariants.{Nothing, Choice}
 use Rattle.guard.specs.declared.runs.Run.{Run}
-use Rattle.guard.specs.Runs.{tick_limit, seven, counts_at, sum_holds, task_fits, place_empty, place_fits, awaited_fits, fits, Room, Small, Smalls}
+use Rattle.guard.specs.Runs.{tick_limit, seven, counts_at, sum_holds, task_fits, place_empty, place_fits, awaited_fits, fits, Room, Small}
 
--- seven values that are equal one by one
-pub all_seven : {A : Type 0} {a b c d e f g a' b' c' d' e' f' g' : A} → a ≡ a' → b ≡ b' → c ≡ c' → d ≡ d' → e ≡ e' → f ≡ f' → g ≡ g'
-    → ◌≡◌ {A = List A} (a ∷ b ∷ c ∷ d ∷ e ∷ f ∷ g ∷ []) (a' ∷ b' ∷ c' ∷ d' ∷ e' ∷ f' ∷ g' ∷ [])
-all_seven p q r s t u v = cc
+-- the value at a place of the seven
+pub seven_at : {A : Type 0} (d : A) (f : ℕ → A) (i : ℕ) → i < 7 → get_or (seven f) i d ≡ f i
+seven_at d f zero h = refl
+seven_at d f (suc zero) h = refl
+seven_at d f (suc (suc zero)) h = refl
+seven_at d f (suc (suc (suc zero))) h = refl
+seven_at d f (suc (suc (suc (suc zero)))) h = refl
+seven_at d f (suc (suc (suc (suc (suc zero))))) h = refl
+seven_at d f (suc (suc (suc (suc (suc (suc zero)))))) h = refl
+seven_at d f (suc (suc (suc (suc (suc (suc (suc i))))))) h = let z : ⊥ = omega arith in absurd z
 
-module _ {A : Type 0} (d : A) where
-  pub seven_at : (f : ℕ → A) (i : ℕ) → i < 7 → get_or (seven f) i d ≡ f i
-  seven_at f zero h = refl
-  seven_at f (suc zero) h = refl
-  seven_at f (suc (suc zero)) h = refl
-  seven_at f (suc (suc (suc zero))) h = refl
-  seven_at f (suc (suc (suc (suc zero)))) h = refl
-  seven_at f (suc (suc (suc (suc (suc zero))))) h = refl
-  seven_at f (suc (suc (suc (suc (suc (suc zero)))))) h = refl
-  seven_at f (suc (suc (suc (suc (suc (suc (suc i))))))) h = let z : ⊥ = omega arith in absurd z
+-- what `all` answers over the numbers below n
+and_swap : (a b c : Bool) → (a && (b && c)) ≡ (b && (a && c))
+and_swap true b c = refl
+and_swap false true c = refl
+and_swap false false c = refl
 
-  -- the first place that passes is the first number whose value does
-  pub seven_first : (f : ℕ → A) (g : A → Bool) (n : ℕ) → n ≤ 7 → first (λ k. g (get_or (seven f) k d)) n 0 ≡ first (λ k. g (f k)) n 0
-  seven_first f g zero h = refl
-  seven_first f g (suc zero) h = refl
-  seven_first f g (suc (suc zero)) h = refl
-  seven_first f g (suc (suc (suc zero))) h = refl
-  seven_first f g (suc (suc (suc (suc zero)))) h = refl
-  seven_first f g (suc (suc (suc (suc (suc zero))))) h = refl
-  seven_first f g (suc (suc (suc (suc (suc (suc zero)))))) h = refl
-  seven_first f g (suc (suc (suc (suc (suc (suc (suc zero))))))) h = refl
-  seven_first f g (suc (suc (suc (suc (suc (suc (suc (suc n)))))))) h = let z : ⊥ = omega arith in absurd z
+all_below_front : (n : ℕ) (f : ℕ → Bool) → all_below (suc n) f ≡ (f 0 && all_below n (λ k. f (suc k)))
+all_below_front zero f = refl
+all_below_front (suc n) f = ap (λ b. f (suc n) && b) (all_below_front n f) ∙ and_swap (f (suc n)) (f 0) _
 
--- a test of every number below n, one by one
-pub all_fails : (n : ℕ) (f : ℕ → Bool) (k : ℕ) → k < n → f k ≡ false → all_below n f ≡ false
-all_fails n f k h e = T_ext (all_below n f) false (λ t. subst T e (all_below_at n f t k h)) (λ t. absurd t)
+all_below_from : (n a : ℕ) (f : ℕ → Bool) → list_all f (range_with_len a n) ≡ all_below n (λ k. f (a + k))
+all_below_from zero a f = refl
+all_below_from (suc n) a f =
+    let z : a ≡ a + 0 = omega arith in
+    ap₂ ◌&&◌ (ap f z) (all_below_from n (a + 1) f ∙ all_below_cong n _ _ (λ i l. let e : a + 1 + i ≡ a + suc i = omega arith in ap f e))
+    ∙ sym (all_below_front n (λ k. f (a + k)))
 
-pub all_passes : (n : ℕ) (f : ℕ → Bool) → ((k : ℕ) → k < n → f k ≡ true) → all_below n f ≡ true
-all_passes n f h = T_true (all_below n f) (all_below_by n f (λ i b. subst T (sym (h i b)) tt))
-
--- where all else is zero, a place is empty if nothing was replaced
-pub empty_last : (x : TaskState) (n : Counts) → x.age ≡ 0 → in_hand x.job ≡ false → n.arrived ≡ 0 → n.finished ≡ 0 → eqb n.replaced 0 ≡ place_empty x n
-unfolding place_empty
-empty_last x n a j r f = simp (eq-eqb _ _ a, j, eq-eqb _ _ r, eq-eqb _ _ f)
-
--- what fits, test by test
-module _ (s : Set) (r : Run) where
-  pub fits_over : tick_limit < r.ticks → fits s r ≡ false
-  unfolding fits
-  fits_over h = ap (λ b. b && (awaited_fits s r r.awaited && all_below 7 (place_fits s r))) (lt-leb r.ticks tick_limit h)
-
-  pub fits_awaited : (b : Bool) → r.ticks ≤ tick_limit → awaited_fits s r r.awaited ≡ b → fits s r ≡ (b && all_below 7 (place_fits s r))
-  unfolding fits
-  fits_awaited b h e = ap₂ (λ x y. x && (y && all_below 7 (place_fits s r))) (le-leb r.ticks tick_limit h) e
+pub all_ran : {F : Type 0} {g : Mut F (ℕ × Unit {0}) Bool} (n : ℕ) (f : ℕ → Bool) (u : Range ℕ) (c : F) (r : Bool)
+    → (xs : List ℕ) × (o : Option ℕ) × (j : F) × YieldsThen nat_range_steps (record { start = 0; end = n }) xs o u × FoldsTo (λ p x q. Called g p (x, tt) true q) c xs j × MatchOption o (r ≡ true) (λ x. (r ≡ false) × ((h : F) × Called g j (x, tt) false h))
+    → ((x : ℕ) (b : Bool) (q : F) → Called g c (x, tt) b q → (q ≡ c) × (b ≡ f x)) → r ≡ all_below n f
+all_ran n f u c r ran each = all_from_yields_List f u c r ran (YieldsList-from_range 0 n n refl (omega arith)) each ∙ all_below_from n 0 f ∙ all_below_cong n _ _ (λ i l. let e : 0 + i ≡ i = omega arith in ap f e)
 
 -- a task's place that fits
 pub record Fit (τ : Task) (ticks : ℕ) (x : TaskState) (n : Counts) : Type 0 where
@@ -134,14 +123,14 @@ module _ (s : Set) (r : Run) where
       (all_below_by 7 (place_fits s r) (λ k l. ⊎_elim (λ h. subst T (sym (place_task k h)) (fit_by _ _ _ _ (w.tasks k h))) (λ h. subst T (sym (place_rest k h)) (w.rest k h l)) (lt_or_le k s.count))))
 
 -- what a run that fits leaves room for
-few_awaited : (s : Set) (r : Run) (a : Awaited) → T (awaited_fits s r a) → r.substitutions ≤ r.ticks + 1
-few_awaited s r Nothing t = omega (arith, leb→le r.substitutions r.ticks t)
-few_awaited s r (Choice c) t =
+few_awaited : (s : Set) (r : Run) (a : Option ℕ) → T (awaited_fits s r a) → r.substitutions ≤ r.ticks + 1
+few_awaited s r None t = omega (arith, leb→le r.substitutions r.ticks t)
+few_awaited s r (Some c) t =
     leb→le r.substitutions (r.ticks + 1) (and_left (leb r.substitutions (r.ticks + 1)) _ (and_right _ _ t))
 
-open_awaited : (s : Set) (r : Run) (a : Awaited) (c : ℕ) → a ≡ Choice c → T (awaited_fits s r a) → r.ticks < tick_limit
-open_awaited s r Nothing c e t = let z : ◌≡◌ {A = ℕ} 0 1 = cc in absurd (omega arith)
-open_awaited s r (Choice d) c e t = ltb→lt r.ticks tick_limit (and_left (ltb r.ticks tick_limit) _ t)
+open_awaited : (s : Set) (r : Run) (a : Option ℕ) (c : ℕ) → a ≡ Some c → T (awaited_fits s r a) → r.ticks < tick_limit
+open_awaited s r None c e t = let z : ◌≡◌ {A = ℕ} 0 1 = cc in absurd (omega arith)
+open_awaited s r (Some d) c e t = ltb→lt r.ticks tick_limit (and_left (ltb r.ticks tick_limit) _ t)
 
 module _ (s : Set) (r : Run) (w : Fits s r) where
   pub few_substitutions : r.substitutions ≤ r.ticks + 1
@@ -150,7 +139,7 @@ module _ (s : Set) (r : Run) (w : Fits s r) where
   pub small_substitutions : Room r.substitutions
   small_substitutions = omega (arith, few_substitutions, w.ticks)
 
-  pub open_ticks : (c : ℕ) → r.awaited ≡ Choice c → r.ticks < tick_limit
+  pub open_ticks : (c : ℕ) → r.awaited ≡ Some c → r.ticks < tick_limit
   open_ticks c e = open_awaited s r r.awaited c e w.awaited
 
   pub index_fits : index_of s r.states < states_of s
@@ -168,23 +157,32 @@ empty_small x n t =
       replaced = omega (arith, eqb→eq n.replaced 0 (and_right (eqb n.finished 0) _ b));
     }
 
-pub small_counts : (s : Set) (r : Run) → Fits s r → Smalls r.counts
-small_counts s r w = record {
-  first = at 0 (omega arith);
-  second = at 1 (omega arith);
-  third = at 2 (omega arith);
-  fourth = at 3 (omega arith);
-  fifth = at 4 (omega arith);
-  sixth = at 5 (omega arith);
-  seventh = at 6 (omega arith);
-}
+pub small_counts : (s : Set) (r : Run) → Fits s r → (k : ℕ) → k < 7 → Small (counts_at r.counts k)
+small_counts s r w k l = ⊎_elim (task k) (λ h. empty_small _ _ (w.rest k h l)) (lt_or_le k s.count)
   where
-    at : (k : ℕ) → k < 7 → Small (counts_at r.counts k)
-    at k l = ⊎_elim (task k) (λ h. empty_small _ _ (w.rest k h l)) (lt_or_le k s.count)
-      where
-        task : (k : ℕ) → k < s.count → Small (counts_at r.counts k)
-        task k h = let p = w.tasks k h in record {
-          arrived = omega (arith, p.few, w.ticks);
-          finished = omega (arith, p.few, p.sum, w.ticks);
-          replaced = omega (arith, p.few, p.sum, w.ticks);
-        }
+    task : (k : ℕ) → k < s.count → Small (counts_at r.counts k)
+    task k h = let p = w.tasks k h in record {
+      arrived = omega (arith, p.few, w.ticks);
+      finished = omega (arith, p.few, p.sum, w.ticks);
+      replaced = omega (arith, p.few, p.sum, w.ticks);
+    }
+
+-- the same, of a run that passes the test
+module _ (s : Set) (r : Run) (p : Passed s) (e : fits s r ≡ true) where
+  w : Fits s r
+  w = fits_at s r (count_le s p) (subst T (sym e) tt)
+
+  pub room : Room r.substitutions
+  room = small_substitutions s r w
+
+  pub index_small : index_of s r.states < states_of s
+  index_small = index_fits s r w
+
+  pub ticks_left : (c : ℕ) → r.awaited ≡ Some c → r.ticks < tick_limit
+  ticks_left c a = open_ticks s r w c a
+
+  pub small_at : (k : ℕ) → k < 7 → Small (counts_at r.counts k)
+  small_at = small_counts s r w
+
+pub states_small : (s : Set) → Passed s → states_of s ≤ 60000
+states_small s p = (passed_valid s p).states

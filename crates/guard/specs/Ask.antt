@@ -1,19 +1,17 @@
 -- Asking: the choice that the guard gives for a proposal, or why it gives none.
-use Rattle.std.specs.Prelude.{ℕ, zero, suc, ◌+◌, ◌-◌, Bool, true, cond, not, ◌&&◌, List, [], ◌∷◌, length, ◌==◌, nat_lt}
+use Rattle.std.specs.Prelude.{ℕ, zero, suc, ◌+◌, ◌-◌, Bool, true, cond, not, ◌&&◌, List, [], ◌∷◌, Result, Some, Ok, Err, length, is_some, ◌==◌, nat_lt}
 use Rattle.arena.specs.Tests.{all_below, imp}
 use Rattle.tasks.specs.declared.sets.Set.{Set}
-use Rattle.tasks.specs.declared.sets.Tested.{Tested}
-use Rattle.tasks.specs.Refusals.{Said, answered, refusing, buffer_too_short, state_does_not_fit, out_of_turn, ticks_used_up, proposal_above_count, bad_entry}
+use Rattle.tasks.specs.declared.refusals.Refusal.{Refusal}
+use Rattle.tasks.specs.declared.refusals.Reason.TheVariants.{BufferTooShort, StateDoesNotFit, OutOfTurn, TicksUsedUp, ProposalAboveCount, BadEntry}
+use Rattle.tasks.specs.Refusals.{Said, answered, refusing}
 use Rattle.tasks.specs.Sets.{task_at, test_set}
 use Rattle.game.specs.declared.states.TaskState.{TaskState}
 use Rattle.game.specs.States.{state_at, index_of}
 use Rattle.shield.specs.Entries.{names, entry_at}
-use Rattle.guard.specs.declared.runs.Awaited.TheVariants as Awaited
 use Rattle.guard.specs.declared.runs.Run.{Run}
-use Rattle.guard.specs.declared.asks.Chosen.{Chosen}
-use Rattle.guard.specs.declared.asks.Chosen.TheVariants.{Choice, Refused}
-use Rattle.guard.specs.declared.asks.Asked.{Asked}
-use Rattle.guard.specs.Runs.{tick_limit, legal_for, fits, awaits}
+use Rattle.guard.specs.declared.runs.Answered.{Answered}
+use Rattle.guard.specs.Runs.{tick_limit, refused, legal_for, fits}
 
 -- an entry serves a state if it is not 0, and names only idle and runnable tasks
 abbrev pub serves_for : Set → List TaskState → ℕ → ℕ → Bool
@@ -45,49 +43,45 @@ unfoldable pub choice_for : Set → List TaskState → ℕ → ℕ → ℕ
 choice_for s xs e p = cond (names e p) p (substitute_to s xs e s.count)
 
 -- the choice is given, a substitution is counted where it is not the proposal, and its report is awaited
-unfoldable pub ask_given : Run → ℕ → ℕ → Asked
+unfoldable pub ask_given : Run → ℕ → ℕ → Answered ℕ
 ask_given r p c = record {
-  answer = Choice c;
+  answer = Ok c;
   run = record {
     states = r.states;
     counts = r.counts;
     ticks = r.ticks;
     substitutions = cond (c == p) r.substitutions (r.substitutions + 1);
     reading = r.reading;
-    awaited = Awaited.Choice c;
+    awaited = Some c;
   };
 }
 
--- a refusal, beside the run as it was given
-abbrev pub ask_refused : Run → ℕ → ℕ → Asked
-ask_refused r number place = record { answer = Refused (record { number = number; place = place }); run = r }
-
 -- 16, and then the choice
-unfoldable pub ask_entry : Set → List ℕ → Run → ℕ → Asked
+unfoldable pub ask_entry : Set → List ℕ → Run → ℕ → Answered ℕ
 ask_entry s table r p =
     let i = index_of s r.states in
     let e = entry_at table i in
-    cond (serves s r.states e) (ask_given r p (choice_for s r.states e p)) (ask_refused r bad_entry i)
+    cond (serves s r.states e) (ask_given r p (choice_for s r.states e p)) (refused r BadEntry i)
 
 -- 21, 14, 20, 15
-unfoldable pub ask_fits : Set → List ℕ → Run → ℕ → Asked
+unfoldable pub ask_fits : Set → List ℕ → Run → ℕ → Answered ℕ
 ask_fits s table r p =
-    cond (not (fits s r)) (ask_refused r state_does_not_fit 0)
-    (cond (awaits r.awaited) (ask_refused r out_of_turn 0)
-    (cond (r.ticks == tick_limit) (ask_refused r ticks_used_up 0)
-    (cond (nat_lt s.count p) (ask_refused r proposal_above_count 0)
+    cond (not (fits s r)) (refused r StateDoesNotFit 0)
+    (cond (is_some r.awaited) (refused r OutOfTurn 0)
+    (cond (r.ticks == tick_limit) (refused r TicksUsedUp 0)
+    (cond (nat_lt s.count p) (refused r ProposalAboveCount 0)
     (ask_entry s table r p))))
 
 -- the set's own refusal, and then 7
-abbrev pub ask_tested : Set → List ℕ → Run → ℕ → Tested → Asked
-ask_tested s table r p (Tested.Refused f) = record { answer = Refused f; run = r }
-ask_tested s table r p (Tested.States S) = cond (nat_lt (length table) S) (ask_refused r buffer_too_short S) (ask_fits s table r p)
+abbrev pub ask_tested : Set → List ℕ → Run → ℕ → Result ℕ Refusal → Answered ℕ
+ask_tested s table r p (Err f) = record { answer = Err f; run = r }
+ask_tested s table r p (Ok S) = cond (nat_lt (length table) S) (refused r BufferTooShort S) (ask_fits s table r p)
 
 -- what asking answers
-abbrev pub ask_of : Set → List ℕ → Run → ℕ → Asked
+abbrev pub ask_of : Set → List ℕ → Run → ℕ → Answered ℕ
 ask_of s table r p = ask_tested s table r p (test_set s)
 
 -- the answer in the paper's terms
-abbrev pub said_chosen : Chosen → Said
-said_chosen (Choice c) = answered (c ∷ [])
-said_chosen (Refused f) = refusing 1 f
+abbrev pub said_chosen : Result ℕ Refusal → Said
+said_chosen (Ok c) = answered (c ∷ [])
+said_chosen (Err f) = refusing 1 f

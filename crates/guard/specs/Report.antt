@@ -1,9 +1,9 @@
 -- Reporting: what a report names, and the run after it, or why it is not taken.
-use Rattle.std.specs.Prelude.{ℕ, zero, suc, ◌+◌, ◌/◌, ◌%◌, ◌^◌, Bool, true, false, cond, not, ◌&&◌, ◌||◌, List, [], ◌∷◌, ◌++◌, ◌==◌, nat_lt, slice_index_or}
-use Rattle.arena.specs.Tests.{first, one}
+use Rattle.std.specs.Prelude.{ℕ, zero, suc, ◌+◌, ◌/◌, ◌%◌, ◌^◌, Bool, true, false, cond, not, ◌&&◌, ◌||◌, List, [], ◌∷◌, ◌++◌, Option, Some, None, Result, Ok, Err, ◌==◌, nat_lt, slice_index_or}
+use Rattle.arena.specs.Tests.{any_below, first, one}
 use Rattle.tasks.specs.declared.sets.Set.{Set}
-use Rattle.tasks.specs.declared.sets.Tested.{Tested}
-use Rattle.tasks.specs.Refusals.{state_does_not_fit, out_of_turn, wrong_reading, impossible_outcome, hard_miss}
+use Rattle.tasks.specs.declared.refusals.Refusal.{Refusal}
+use Rattle.tasks.specs.declared.refusals.Reason.TheVariants.{StateDoesNotFit, OutOfTurn, WrongReading, ImpossibleOutcome, HardMiss}
 use Rattle.tasks.specs.Sets.{task_at, test_set}
 use Rattle.game.specs.declared.states.TaskState.{TaskState}
 use Rattle.game.specs.declared.ticks.Ticked.{Ticked}
@@ -14,13 +14,10 @@ use Rattle.game.specs.Ticks.{flagged, in_hand, tick_of}
 use Rattle.game.specs.Game.{Seen}
 use Rattle.shield.specs.Entries.{names}
 use Rattle.guard.specs.declared.runs.Counts.{Counts}
-use Rattle.guard.specs.declared.runs.Awaited.{Awaited}
-use Rattle.guard.specs.declared.runs.Awaited.TheVariants.{Nothing, Choice}
 use Rattle.guard.specs.declared.runs.Run.{Run}
-use Rattle.guard.specs.declared.runs.Taken.TheVariants.{Done, Refused}
+use Rattle.guard.specs.declared.runs.Answered.{Answered}
 use Rattle.guard.specs.declared.reports.Outcome.{Outcome}
-use Rattle.guard.specs.declared.reports.Reported.{Reported}
-use Rattle.guard.specs.Runs.{seven, counts_at, fits}
+use Rattle.guard.specs.Runs.{seven, counts_at, refused, fits}
 
 -- the next reading: it rolls over to zero
 abbrev pub next_reading : ℕ → ℕ
@@ -43,22 +40,30 @@ tick_at s xs o k = tick_of (task_at s k) (o.choice == suc k) (state_at xs k) (fl
 abbrev pub ticked : List Ticked → ℕ → Ticked
 ticked ts k = slice_index_or ts k Impossible
 
--- a tick that is not possible, or a miss
-abbrev pub is_such : Bool → Ticked → Bool
-is_such missed Impossible = not missed
-is_such missed Missed = missed
-is_such missed (Next y) = false
+-- a tick that is not possible, and a miss
+abbrev pub is_impossible : Ticked → Bool
+is_impossible Impossible = true
+is_impossible Missed = false
+is_impossible (Next y) = false
 
--- the lowest task, from 0, whose tick is not possible, or a miss; n where there is none
-abbrev pub first_such : Set → List TaskState → Outcome → Bool → ℕ
-first_such s xs o missed = first (λ k. is_such missed (tick_at s xs o k)) s.count 0
+abbrev pub is_missed : Ticked → Bool
+is_missed Impossible = false
+is_missed Missed = true
+is_missed (Next y) = false
+
+-- the lowest task, from 0, whose tick is a miss
+abbrev pub first_missed : Set → List TaskState → Outcome → Option ℕ
+first_missed s xs o =
+    let m = first (λ k. is_missed (tick_at s xs o k)) s.count 0 in
+    cond (nat_lt m s.count) (Some m) None
 
 -- a job said to have finished though none was run, or an arrival bit above task n
 unfoldable pub strays : Set → Outcome → Bool
 strays s o = (o.finished && o.choice == 0) || not (o.arrivals / 2 ^ s.count == 0)
 
+-- that, or a tick that is not possible
 unfoldable pub impossible : Set → List TaskState → Outcome → Bool
-impossible s xs o = strays s o || nat_lt (first_such s xs o false) s.count
+impossible s xs o = strays s o || any_below s.count (λ k. is_impossible (tick_at s xs o k))
 
 -- the state of a task after its tick
 abbrev pub state_after : TaskState → Ticked → TaskState
@@ -89,35 +94,34 @@ run_after s r o = record {
   ticks = r.ticks + 1;
   substitutions = r.substitutions;
   reading = next_reading r.reading;
-  awaited = Nothing;
+  awaited = None;
 }
 
--- a refusal, beside the run as it was given
-abbrev pub report_refused : Run → ℕ → ℕ → Reported
-report_refused r number place = record { answer = Refused (record { number = number; place = place }); run = r }
+-- 19 at the lowest task that misses
+abbrev pub report_possible : Set → Run → Outcome → Option ℕ → Answered (Unit {0})
+report_possible s r o (Some k) = refused r HardMiss (suc k)
+report_possible s r o None = record { answer = Ok tt; run = run_after s r o }
 
--- 18 for any task, and then 19 at the lowest
-unfoldable pub report_named : Set → Run → Outcome → Reported
+-- 18 for any task, and then 19
+unfoldable pub report_named : Set → Run → Outcome → Answered (Unit {0})
 report_named s r o =
-    let m = first_such s r.states o true in
-    cond (impossible s r.states o) (report_refused r impossible_outcome 0)
-    (cond (nat_lt m s.count) (report_refused r hard_miss (suc m))
-    (record { answer = Done; run = run_after s r o }))
+    cond (impossible s r.states o) (refused r ImpossibleOutcome 0)
+    (report_possible s r o (first_missed s r.states o))
 
 -- 14, 17
-abbrev pub report_awaited : Set → Run → ℕ → Bool → ℕ → Awaited → Reported
-report_awaited s r reading finished arrivals Nothing = report_refused r out_of_turn 0
-report_awaited s r reading finished arrivals (Choice c) =
+abbrev pub report_awaited : Set → Run → ℕ → Bool → ℕ → Option ℕ → Answered (Unit {0})
+report_awaited s r reading finished arrivals None = refused r OutOfTurn 0
+report_awaited s r reading finished arrivals (Some c) =
     cond (reading == next_reading r.reading)
     (report_named s r (record { choice = c; finished = finished; arrivals = arrivals }))
-    (report_refused r wrong_reading 0)
+    (refused r WrongReading 0)
 
 -- the set's own refusal, and then 21
-abbrev pub report_tested : Set → Run → ℕ → Bool → ℕ → Tested → Reported
-report_tested s r reading finished arrivals (Tested.Refused f) = record { answer = Refused f; run = r }
-report_tested s r reading finished arrivals (Tested.States S) =
-    cond (fits s r) (report_awaited s r reading finished arrivals r.awaited) (report_refused r state_does_not_fit 0)
+abbrev pub report_tested : Set → Run → ℕ → Bool → ℕ → Result ℕ Refusal → Answered (Unit {0})
+report_tested s r reading finished arrivals (Err f) = record { answer = Err f; run = r }
+report_tested s r reading finished arrivals (Ok S) =
+    cond (fits s r) (report_awaited s r reading finished arrivals r.awaited) (refused r StateDoesNotFit 0)
 
 -- what reporting answers
-abbrev pub report_of : Set → Run → ℕ → Bool → ℕ → Reported
+abbrev pub report_of : Set → Run → ℕ → Bool → ℕ → Answered (Unit {0})
 report_of s r reading finished arrivals = report_tested s r reading finished arrivals (test_set s)

@@ -1,9 +1,10 @@
 -- A run: what is in it, the run at the start, and whether a run fits a set.
-use Rattle.std.specs.Prelude.{ℕ, ◌+◌, ◌<◌, Bool, true, false, cond, not, ◌&&◌, List, [], ◌∷◌, ◌==◌, nat_le, nat_lt, slice_index_or}
+use Rattle.std.specs.Prelude.{ℕ, ◌+◌, ◌<◌, Bool, cond, not, ◌&&◌, List, [], ◌∷◌, Option, Some, None, Result, Ok, Err, ◌==◌, nat_le, nat_lt, slice_index_or}
 use Rattle.arena.specs.Tests.{all_below, one}
 use Rattle.tasks.specs.declared.sets.Task.{Task}
 use Rattle.tasks.specs.declared.sets.Set.{Set}
-use Rattle.tasks.specs.declared.sets.Tested.{Tested}
+use Rattle.tasks.specs.declared.refusals.Reason.{Reason}
+use Rattle.tasks.specs.declared.refusals.Refusal.{Refusal}
 use Rattle.tasks.specs.Refusals.{Said, answered, refusing}
 use Rattle.tasks.specs.Sets.{within, task_at, test_set}
 use Rattle.game.specs.declared.states.Job.TheVariants.{InHand}
@@ -12,12 +13,8 @@ use Rattle.game.specs.States.{in_range, no_state, state_at}
 use Rattle.game.specs.Ticks.{in_hand}
 use Rattle.game.specs.Game.{legal}
 use Rattle.guard.specs.declared.runs.Counts.{Counts}
-use Rattle.guard.specs.declared.runs.Awaited.{Awaited}
-use Rattle.guard.specs.declared.runs.Awaited.TheVariants.{Nothing, Choice}
 use Rattle.guard.specs.declared.runs.Run.{Run}
-use Rattle.guard.specs.declared.runs.Taken.{Taken}
-use Rattle.guard.specs.declared.runs.Taken.TheVariants.{Done, Refused}
-use Rattle.guard.specs.declared.runs.Started.{Started}
+use Rattle.guard.specs.declared.runs.Answered.{Answered}
 
 -- a run counts at most so many ticks
 abbrev pub tick_limit : ℕ
@@ -57,16 +54,20 @@ start_run n reading = record {
   ticks = 0;
   substitutions = 0;
   reading = reading;
-  awaited = Nothing;
+  awaited = None;
 }
 
+-- a refusal, beside the run as it was given
+abbrev pub refused : {A : Type 0} → Run → Reason → ℕ → Answered A
+refused r reason place = record { answer = Err (record { reason = reason; place = place }); run = r }
+
 -- a refused start returns a run of zeros with no job
-abbrev pub start_tested : Set → ℕ → Tested → Started
-start_tested s reading (Tested.Refused f) = record { answer = Refused f; run = start_run 0 0 }
-start_tested s reading (Tested.States S) = record { answer = Done; run = start_run s.count reading }
+abbrev pub start_tested : Set → ℕ → Result ℕ Refusal → Answered (Unit {0})
+start_tested s reading (Err f) = record { answer = Err f; run = start_run 0 0 }
+start_tested s reading (Ok S) = record { answer = Ok tt; run = start_run s.count reading }
 
 -- what starting answers
-abbrev pub start_of : Set → ℕ → Started
+abbrev pub start_of : Set → ℕ → Answered (Unit {0})
 start_of s reading = start_tested s reading (test_set s)
 
 -- arrived is finished plus replaced plus the job in hand
@@ -81,20 +82,11 @@ task_fits τ ticks x n = in_range τ x && (sum_holds x n && within 1 (ticks + 1)
 abbrev pub Room : ℕ → Type 0
 Room n = n < 4294967295
 
--- so for each of a task's counts, and for each task's
+-- so for each of a task's counts
 pub record Small (n : Counts) : Type 0 where
   pub arrived : Room n.arrived
   pub finished : Room n.finished
   pub replaced : Room n.replaced
-
-pub record Smalls (ns : List Counts) : Type 0 where
-  pub first : Small (counts_at ns 0)
-  pub second : Small (counts_at ns 1)
-  pub third : Small (counts_at ns 2)
-  pub fourth : Small (counts_at ns 3)
-  pub fifth : Small (counts_at ns 4)
-  pub sixth : Small (counts_at ns 5)
-  pub seventh : Small (counts_at ns 6)
 
 -- a place beyond the tasks is zero with no job
 unfoldable pub place_empty : TaskState → Counts → Bool
@@ -112,20 +104,15 @@ unfoldable pub legal_for : Set → List TaskState → ℕ → Bool
 legal_for s xs = legal s (state_at xs)
 
 -- substitutions are at most ticks, and one more while a report is awaited; none is awaited at the last tick, nor for a choice that is neither idle nor runnable
-abbrev pub awaited_fits : Set → Run → Awaited → Bool
-awaited_fits s r Nothing = nat_le r.substitutions r.ticks
-awaited_fits s r (Choice c) = nat_lt r.ticks tick_limit && (nat_le r.substitutions (r.ticks + 1) && legal_for s r.states c)
+abbrev pub awaited_fits : Set → Run → Option ℕ → Bool
+awaited_fits s r None = nat_le r.substitutions r.ticks
+awaited_fits s r (Some c) = nat_lt r.ticks tick_limit && (nat_le r.substitutions (r.ticks + 1) && legal_for s r.states c)
 
 -- a state fits the set
 unfoldable pub fits : Set → Run → Bool
 fits s r = nat_le r.ticks tick_limit && (awaited_fits s r r.awaited && all_below 7 (place_fits s r))
 
--- a report is awaited
-abbrev pub awaits : Awaited → Bool
-awaits Nothing = false
-awaits (Choice c) = true
-
 -- the answer of a start or a report in the paper's terms
-abbrev pub said_taken : Taken → Said
-said_taken Done = answered []
-said_taken (Refused f) = refusing 0 f
+abbrev pub said_taken : Result (Unit {0}) Refusal → Said
+said_taken (Ok _) = answered []
+said_taken (Err f) = refusing 0 f

@@ -1,72 +1,32 @@
 // Asking: the guard gives the proposal back if the entry allows it, and otherwise a substitute.
-ghost use Rattle.std.specs.Prelude.{◌≡◌, ◌<◌, ◌≤◌, T, length};
-ghost use Rattle.tasks.specs.Sets.{states_of, Passed};
+ghost use Rattle.std.specs.Prelude.{◌≡◌, ◌<◌, ◌≤◌, IsTrue, length};
+ghost use Rattle.arena.specs.Tests.{all_below};
+ghost use Rattle.tasks.specs.Sets.{states_of};
 ghost use Rattle.guard.specs.Runs.{Room, fits};
-ghost use Rattle.guard.specs.Ask.{serves_for, serves, slack, better, substitute_to, choice_for, ask_given, ask_refused, ask_entry, ask_fits, ask_of};
+ghost use Rattle.guard.specs.Ask.{serves_for, serves, slack, better, substitute_to, choice_for, ask_given, ask_entry, ask_fits, ask_of};
 
 use crate::runs;
-use crate::runs::{Awaited, Run};
+use crate::runs::{Answered, Fitting, Run};
 use game::states;
 use game::states::TaskState;
 use shield::entries;
-use tasks::refusals::Refusal;
-use tasks::sets::{Set, Tested};
-use tasks::{refusals, sets};
+use tasks::refusals::Reason;
+use tasks::sets::{Set, ValidSet};
 
-// What an ask answers: a choice, 0 idle and i task i, or the refusal.
-#[derive(Clone, Copy)]
-pub enum Chosen {
-    Choice(u8),
-    Refused(Refusal),
-}
-
-// The answer, and the run after it.
-#[derive(Clone, Copy)]
-pub struct Asked {
-    pub answer: Chosen,
-    pub run: Run,
-}
-
-// A refusal, beside the run as it was given.
-fn refuse(r: Run, number: u8, place: u32) -> Asked
-    ensures { result ≡ ask_refused r number place }
+// Whether each choice is not named, or legal.
+fn names_legal(f: &Fitting, entry: u8) -> bool
+    ensures { result ≡ all_below 8 (serves_for f.now.v.set f.now.run.states entry) }
 {
-    Asked {
-        answer: Chosen::Refused(Refusal {
-            number: number,
-            place: place,
-        }),
-        run: r,
-    }
-}
-
-// Whether a choice is not named, or legal.
-fn named_legal(s: Set, xs: [TaskState; 7], entry: u8, choice: usize) -> bool
-    requires { Passed s × (choice < 8) }
-    ensures { result ≡ serves_for s xs entry choice }
-{
-    if !entries::allows(entry, choice) {
-        return true;
-    }
-    runs::is_legal(s, xs, choice)
+    (0..8).all(|choice| !entries::allows(entry, choice)
+        || runs::is_legal(&f.v, f.run.states, choice))
 }
 
 // Whether an entry is not 0, and names only idle and runnable tasks.
-fn serves_state(s: Set, xs: [TaskState; 7], entry: u8) -> bool
-    requires { Passed s }
-    ensures { result ≡ serves s xs entry }
+#[tactic(auto, unfolding(crate::specs::Ask::serves))]
+fn serves_state(f: &Fitting, entry: u8) -> bool
+    ensures { result ≡ serves f.now.v.set f.now.run.states entry }
 {
-    if entry == 0 {
-        return false;
-    }
-    let mut choice = 0;
-    while choice < 8 {
-        if !named_legal(s, xs, entry, choice) {
-            return false;
-        }
-        choice += 1;
-    }
-    true
+    entry != 0 && names_legal(f, entry)
 }
 
 // D minus age of task k + 1, 0 past the deadline.
@@ -74,132 +34,118 @@ fn slack_of(s: Set, xs: [TaskState; 7], k: usize) -> u8
     requires { k < 7 }
     ensures { result ≡ slack s xs k }
 {
-    let t = s.tasks[k];
-    let x = xs[k];
-    if t.deadline < x.age {
-        return 0;
-    }
-    t.deadline - x.age
+    s.tasks[k].deadline.saturating_sub(xs[k].age)
 }
 
-// The better of the best task so far, 0 for none, and task k + 1.
+// No plainer: no lemma of std makes of what `min_by_key` picks, step by step, the choice that the specs name.
+// The better of the choice so far, which is idle before any task, and task k + 1.
+#[tactic(auto, unfolding(crate::specs::Ask::better))]
 fn better_of(s: Set, xs: [TaskState; 7], entry: u8, best: usize, k: usize) -> usize
     requires { (best ≤ 7) × (k < 7) }
-    ensures { result ≡ better s xs entry best k }
+    ensures value { result ≡ better s xs entry best k }
+    ensures small { result ≤ 7 }
 {
-    if !entries::allows(entry, k + 1) {
-        return best;
+    if entries::allows(entry, k + 1)
+        && (best == 0 || slack_of(s, xs, k) < slack_of(s, xs, best - 1))
+    {
+        k + 1
+    } else {
+        best
     }
-    if best == 0 {
-        return k + 1;
-    }
-    if slack_of(s, xs, k) < slack_of(s, xs, best - 1) {
-        return k + 1;
-    }
-    best
 }
 
 // The allowed task with least D minus age.
-fn substitute(s: Set, xs: [TaskState; 7], entry: u8) -> usize
-    requires { Passed s }
-    ensures value { result ≡ substitute_to s xs entry s.count }
+#[tactic(auto, using(game::proofs::StateLaws::count_le), unfolding(crate::specs::Ask::substitute_to))]
+fn substitute(f: &Fitting, entry: u8) -> usize
+    ensures value { result ≡ substitute_to f.now.v.set f.now.run.states entry f.now.v.set.count }
     ensures small { result ≤ 7 }
 {
     let mut best = 0;
-    let mut k = 0;
-    while k < s.count as usize {
-        best = better_of(s, xs, entry, best, k);
-        k += 1;
+    for k in 0..usize::from(f.v.set.count) {
+        best = better_of(f.v.set, f.run.states, entry, best, k);
     }
     best
 }
 
 // The proposal if the entry allows it, and otherwise the substitute.
-fn choose(s: Set, xs: [TaskState; 7], entry: u8, proposal: u8) -> u8
-    requires { Passed s × (proposal ≤ 7) }
-    ensures { result ≡ choice_for s xs entry proposal }
+#[tactic(auto, unfolding(crate::specs::Ask::choice_for))]
+fn choose(f: &Fitting, entry: u8, proposal: u8) -> u8
+    requires { proposal ≤ 7 }
+    ensures { result ≡ choice_for f.now.v.set f.now.run.states entry proposal }
 {
-    if entries::allows(entry, proposal as usize) {
-        return proposal;
+    if entries::allows(entry, usize::from(proposal)) {
+        proposal
+    } else {
+        substitute(f, entry) as u8
     }
-    substitute(s, xs, entry) as u8
 }
 
 // The choice is given and awaited; a substitution is counted.
-fn give(r: Run, proposal: u8, choice: u8) -> Asked
+#[tactic(auto, unfolding(crate::specs::Ask::ask_given))]
+fn give(r: Run, proposal: u8, choice: u8) -> Answered<u8>
     requires { Room r.substitutions }
     ensures { result ≡ ask_given r proposal choice }
 {
-    let xs = r.states;
-    let ns = r.counts;
-    let mut n = r.substitutions;
+    let mut run = r;
     if choice != proposal {
-        n += 1;
+        run.substitutions += 1;
     }
-    Asked {
-        answer: Chosen::Choice(choice),
-        run: Run {
-            states: xs,
-            counts: ns,
-            ticks: r.ticks,
-            substitutions: n,
-            reading: r.reading,
-            awaited: Awaited::Choice(choice),
-        },
+    run.awaited = Some(choice);
+    Answered {
+        answer: Ok(choice),
+        run,
     }
 }
 
 // The entry of the run's state, and the choice by it.
-fn ask_entry(s: Set, table: &[u8], r: Run, proposal: u8) -> Asked
-    requires { Passed s × (states_of s ≤ length table.now) × T (fits s r) × (proposal ≤ 7) }
-    ensures { result ≡ ask_entry s table.now r proposal }
+#[tactic(auto, using(crate::proofs::RunLaws::index_small, crate::proofs::RunLaws::states_small, crate::proofs::RunLaws::room), unfolding(crate::specs::Ask::ask_entry))]
+fn ask_entry(f: &Fitting, table: &[u8], proposal: u8) -> Answered<u8>
+    requires { (states_of f.now.v.set ≤ length table.now) × (proposal ≤ 7) }
+    ensures { result ≡ ask_entry f.now.v.set table.now f.now.run proposal }
 {
-    let xs = r.states;
-    let i = states::index_of(s, xs);
+    let i = states::index_of(f.v.set, f.run.states);
     let entry = table[i];
-    if !serves_state(s, xs, entry) {
-        return refuse(r, refusals::BAD_ENTRY, i as u32);
+    if !serves_state(f, entry) {
+        return runs::refuse(f.run, Reason::BadEntry, i as u32);
     }
-    let choice = choose(s, xs, entry, proposal);
-    give(r, proposal, choice)
+    give(f.run, proposal, choose(f, entry, proposal))
 }
 
 // An ask with a table that is long enough.
-fn ask_fits(s: Set, table: &[u8], r: Run, proposal: u8) -> Asked
-    requires { Passed s × (states_of s ≤ length table.now) }
-    ensures { result ≡ ask_fits s table.now r proposal }
+#[tactic(auto, using(game::proofs::StateLaws::count_le), unfolding(crate::specs::Ask::ask_fits))]
+fn ask_fits(v: ValidSet, table: &[u8], r: Run, proposal: u8) -> Answered<u8>
+    requires { v.states ≤ length table.now }
+    ensures { result ≡ ask_fits v.set table.now r proposal }
 {
-    if !runs::fits_set(s, r) {
-        return refuse(r, refusals::STATE_DOES_NOT_FIT, 0);
+    if !runs::fits_set(&v, r) {
+        return runs::refuse(r, Reason::StateDoesNotFit, 0);
     }
-    let awaited = r.awaited;
-    if runs::is_awaited(awaited) {
-        return refuse(r, refusals::OUT_OF_TURN, 0);
+    if r.awaited.is_some() {
+        return runs::refuse(r, Reason::OutOfTurn, 0);
     }
     if r.ticks == runs::TICK_LIMIT {
-        return refuse(r, refusals::TICKS_USED_UP, 0);
+        return runs::refuse(r, Reason::TicksUsedUp, 0);
     }
-    if s.count < proposal {
-        return refuse(r, refusals::PROPOSAL_ABOVE_COUNT, 0);
+    if v.set.count < proposal {
+        return runs::refuse(r, Reason::ProposalAboveCount, 0);
     }
-    ask_entry(s, table, r, proposal)
+    ask_entry(&Fitting { v, run: r }, table, proposal)
 }
 
 // An ask: the run's choice for a proposal.
-pub fn ask(s: Set, table: &[u8], r: Run, proposal: u8) -> Asked
+pub fn ask(s: Set, table: &[u8], r: Run, proposal: u8) -> Answered<u8>
     ensures { result ≡ ask_of s table.now r proposal }
 {
-    let tested = sets::test(s);
-    match tested {
-        Tested::Refused(f) => Asked {
-            answer: Chosen::Refused(f),
+    match ValidSet::of(s) {
+        Err(f) => Answered {
+            answer: Err(f),
             run: r,
         },
-        Tested::States(n) => {
-            if table.len() < n as usize {
-                return refuse(r, refusals::BUFFER_TOO_SHORT, n);
+        Ok(v) => {
+            if table.len() < v.states as usize {
+                return runs::refuse(r, Reason::BufferTooShort, v.states);
             }
-            ask_fits(s, table, r, proposal)
+            ask_fits(v, table, r, proposal)
         }
     }
 }

@@ -29,17 +29,17 @@ pub fn starts_refused(rt: &impl Print) {
     show::start(
         rt,
         b"hard 16 16 16, hard 13 13 16, 5",
-        sets::two(
+        sets::case_of([
             sets::hard(16, sets::V16, sets::V16),
             sets::hard(13, sets::V13, sets::V16),
-        ),
+        ]),
         5,
     );
 }
 
 fn change(table: &mut [u8], index: usize, entry: u8) {
-    if index < table.len() {
-        table[index] = entry;
+    if let Some(e) = table.get_mut(index) {
+        *e = entry;
     }
 }
 
@@ -57,7 +57,7 @@ fn ask_built(rt: &impl Print, label: &[u8], r: Run, proposal: u8) {
     ask_with(rt, label, r, 16, 0, proposal);
 }
 
-// Given back, or substituted.
+// Given back, or substituted. Three functions, and no one with a number: each label is one text of its own.
 pub fn proposals_at_0(rt: &impl Print) {
     let fresh = made::started(sets::pair(), 5);
     ask_built(rt, b"PAIR at 0, 0", fresh, 0);
@@ -167,29 +167,24 @@ pub fn asks_refused(rt: &impl Print) {
 // What an entry makes of a proposal: the choice and the substitutions.
 fn choice(rt: &impl Print, table: &[u8], r: Run, proposal: u8) {
     let a = asks::ask(made::ties(), table, r, proposal);
-    let answer = a.answer;
-    let run = a.run;
-    show::put_chosen(rt, answer);
-    lines::put_number(rt, b" substitutions ", run.substitutions as u64);
+    lines::put_answer(rt, b" choice ", a.answer);
+    lines::put_number(rt, b" substitutions ", a.run.substitutions);
 }
 
 // Of each from 0 to 3.
 fn choices(rt: &impl Print, entry: u8, r: Run) {
     let table = [entry; 288];
-    lines::put_number(rt, b"entry ", entry as u64);
+    lines::put_number(rt, b"entry ", entry);
     lines::put(rt, b":");
-    choice(rt, &table, r, 0);
-    choice(rt, &table, r, 1);
-    choice(rt, &table, r, 2);
-    choice(rt, &table, r, 3);
+    for proposal in 0..4 {
+        choice(rt, &table, r, proposal);
+    }
     lines::put(rt, b"\n");
 }
 
 fn entries_from_0_to_16(rt: &impl Print, r: Run) {
-    let mut e: u8 = 0;
-    while e <= 16 {
+    for e in 0..=16 {
         choices(rt, e, r);
-        e += 1;
     }
 }
 

@@ -18,32 +18,35 @@ fn tried(rt: &impl Print, label: &[u8], r: Run) {
     show::report(rt, label, s, r, 6, false, 0);
 }
 
-fn first(rt: &impl Print, label: &[u8], x: TaskState, n: Counts) {
-    tried(rt, label, made::placed(midway(), 0, x, n));
-}
-
-fn second(rt: &impl Print, label: &[u8], x: TaskState, n: Counts) {
-    tried(rt, label, made::placed(midway(), 1, x, n));
+// With another state and other counts in one place.
+fn tried_at(rt: &impl Print, k: usize, label: &[u8], x: TaskState, n: Counts) {
+    tried(rt, label, made::placed(midway(), k, x, n));
 }
 
 // Ages and ticks given are in range.
 pub fn ages(rt: &impl Print) {
     let n = made::counts(4, 3, 0);
     tried(rt, b"midway", midway());
-    first(rt, b"age 2, overdue", made::holds(2, 0), n);
-    first(rt, b"age 3", made::holds(3, 0), n);
-    first(rt, b"age 255", made::holds(255, 0), n);
-    first(rt, b"age 3, no job", made::empty(3), made::counts(4, 4, 0));
+    tried_at(rt, 0, b"age 2, overdue", made::holds(2, 0), n);
+    tried_at(rt, 0, b"age 3", made::holds(3, 0), n);
+    tried_at(rt, 0, b"age 255", made::holds(255, 0), n);
+    tried_at(
+        rt,
+        0,
+        b"age 3, no job",
+        made::empty(3),
+        made::counts(4, 4, 0),
+    );
 }
 
 pub fn given(rt: &impl Print) {
     let n = made::counts(4, 3, 0);
     let m = made::counts(4, 1, 2);
-    first(rt, b"given 1 of 1", made::holds(1, 1), n);
-    first(rt, b"given 255", made::holds(1, 255), n);
-    second(rt, b"given 1 at age 0", made::holds(0, 1), m);
-    second(rt, b"given 2 of 2", made::holds(1, 2), m);
-    second(rt, b"age 3 of the second", made::holds(3, 0), m);
+    tried_at(rt, 0, b"given 1 of 1", made::holds(1, 1), n);
+    tried_at(rt, 0, b"given 255", made::holds(1, 255), n);
+    tried_at(rt, 1, b"given 1 at age 0", made::holds(0, 1), m);
+    tried_at(rt, 1, b"given 2 of 2", made::holds(1, 2), m);
+    tried_at(rt, 1, b"age 3 of the second", made::holds(3, 0), m);
 }
 
 // An awaited choice is idle or runnable.
@@ -69,22 +72,37 @@ pub fn choices_not_runnable(rt: &impl Print) {
 
 // The job sums hold, where no sum wraps; arrived is 1 to ticks + 1.
 pub fn sums_hard(rt: &impl Print) {
-    first(rt, b"arrived 5", made::holds(1, 0), made::counts(5, 3, 0));
-    first(rt, b"arrived 3", made::holds(1, 0), made::counts(3, 3, 0));
-    first(
+    tried_at(
         rt,
+        0,
+        b"arrived 5",
+        made::holds(1, 0),
+        made::counts(5, 3, 0),
+    );
+    tried_at(
+        rt,
+        0,
+        b"arrived 3",
+        made::holds(1, 0),
+        made::counts(3, 3, 0),
+    );
+    tried_at(
+        rt,
+        0,
         b"replaced 1 of a hard task",
         made::holds(1, 0),
         made::counts(5, 3, 1),
     );
-    first(
+    tried_at(
         rt,
+        0,
         b"no job, arrived 4",
         made::empty(1),
         made::counts(4, 3, 0),
     );
-    first(
+    tried_at(
         rt,
+        0,
         b"no job, arrived 3",
         made::empty(1),
         made::counts(3, 3, 0),
@@ -92,22 +110,42 @@ pub fn sums_hard(rt: &impl Print) {
 }
 
 pub fn sums_soft(rt: &impl Print) {
-    second(
+    tried_at(
         rt,
+        1,
         b"a wrapped sum",
         made::empty(1),
         made::counts(1, 4294967295, 2),
     );
-    second(
+    tried_at(
         rt,
+        1,
         b"a wrapped sum with a job",
         made::holds(1, 0),
         made::counts(1, 4294967295, 1),
     );
-    second(rt, b"arrived 0", made::empty(1), made::counts(0, 0, 0));
-    second(rt, b"arrived 1", made::holds(1, 0), made::counts(1, 0, 0));
-    second(rt, b"arrived 11", made::holds(1, 0), made::counts(11, 5, 5));
-    second(rt, b"arrived 12", made::holds(1, 0), made::counts(12, 6, 5));
+    tried_at(rt, 1, b"arrived 0", made::empty(1), made::counts(0, 0, 0));
+    tried_at(
+        rt,
+        1,
+        b"arrived 1",
+        made::holds(1, 0),
+        made::counts(1, 0, 0),
+    );
+    tried_at(
+        rt,
+        1,
+        b"arrived 11",
+        made::holds(1, 0),
+        made::counts(11, 5, 5),
+    );
+    tried_at(
+        rt,
+        1,
+        b"arrived 12",
+        made::holds(1, 0),
+        made::counts(12, 6, 5),
+    );
 }
 
 // Ticks, substitutions, and nothing awaited at the last tick.
@@ -163,44 +201,21 @@ pub fn last_ticks(rt: &impl Print) {
 }
 
 fn beyond(rt: &impl Print, label: &[u8], k: usize) {
-    let r = midway();
     lines::put(rt, label);
     lines::put(rt, b"\n");
-    tried(
+    tried_at(rt, k, b"age 1", made::empty(1), made::counts(0, 0, 0));
+    tried_at(rt, k, b"a job", made::holds(0, 0), made::counts(0, 0, 0));
+    tried_at(
         rt,
-        b"age 1",
-        made::placed(r, k, made::empty(1), made::counts(0, 0, 0)),
-    );
-    tried(
-        rt,
-        b"a job",
-        made::placed(r, k, made::holds(0, 0), made::counts(0, 0, 0)),
-    );
-    tried(
-        rt,
+        k,
         b"a fresh job",
-        made::placed(r, k, made::holds(0, 0), made::counts(1, 0, 0)),
+        made::holds(0, 0),
+        made::counts(1, 0, 0),
     );
-    tried(
-        rt,
-        b"arrived 1",
-        made::placed(r, k, made::empty(0), made::counts(1, 0, 0)),
-    );
-    tried(
-        rt,
-        b"finished 1",
-        made::placed(r, k, made::empty(0), made::counts(0, 1, 0)),
-    );
-    tried(
-        rt,
-        b"replaced 1",
-        made::placed(r, k, made::empty(0), made::counts(0, 0, 1)),
-    );
-    tried(
-        rt,
-        b"nothing",
-        made::placed(r, k, made::empty(0), made::counts(0, 0, 0)),
-    );
+    tried_at(rt, k, b"arrived 1", made::empty(0), made::counts(1, 0, 0));
+    tried_at(rt, k, b"finished 1", made::empty(0), made::counts(0, 1, 0));
+    tried_at(rt, k, b"replaced 1", made::empty(0), made::counts(0, 0, 1));
+    tried_at(rt, k, b"nothing", made::empty(0), made::counts(0, 0, 0));
 }
 
 // Places beyond n are zero with no job.

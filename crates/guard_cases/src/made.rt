@@ -3,16 +3,16 @@ use cases::sets;
 use cases::sets::{V1, V2, V3, V4};
 use game::states::{Job, TaskState};
 use guard::runs;
-use guard::runs::{Awaited, Counts, Run};
+use guard::runs::{Counts, Run};
 use tasks::sets::{Set, Task};
 
 // soft 3 1 3, soft 2 1 2, soft 2 1 4: D minus age is 3, 2 and 2 at the start
 pub fn ties() -> Set {
-    sets::three(
+    sets::case_of([
         sets::soft(3, V1, V3),
         sets::soft(2, V1, V2),
         sets::soft(2, V1, V4),
-    )
+    ])
 }
 
 // Three records, of which a count is said to be tasks.
@@ -27,14 +27,14 @@ pub fn many() -> Set {
 
 // cmax above D
 pub fn late() -> Set {
-    sets::one(sets::hard(2, V3, V3))
+    sets::case_of([sets::hard(2, V3, V3)])
 }
 
 pub fn started(s: Set, reading: u32) -> Run {
     runs::start(s, reading).run
 }
 
-// The run with another state and other counts in one place.
+// The run with another state and other counts in one place. Two of each, since `Run` holds them in two arrays.
 pub fn placed(r: Run, k: usize, x: TaskState, n: Counts) -> Run {
     let mut q = r;
     if k < 7 {
@@ -46,45 +46,40 @@ pub fn placed(r: Run, k: usize, x: TaskState, n: Counts) -> Run {
 
 // With other totals.
 pub fn totalled(r: Run, ticks: u32, substitutions: u32) -> Run {
-    let mut q = r;
-    q.ticks = ticks;
-    q.substitutions = substitutions;
-    q
+    Run {
+        ticks,
+        substitutions,
+        ..r
+    }
 }
 
 // With a report awaited.
 pub fn awaiting(r: Run, choice: u8) -> Run {
-    let xs = r.states;
-    let ns = r.counts;
     Run {
-        states: xs,
-        counts: ns,
-        ticks: r.ticks,
-        substitutions: r.substitutions,
-        reading: r.reading,
-        awaited: Awaited::Choice(choice),
+        awaited: Some(choice),
+        ..r
     }
 }
 
 pub fn holds(age: u8, given: u8) -> TaskState {
     TaskState {
-        age: age,
+        age,
         job: Job::InHand(given),
     }
 }
 
 pub fn empty(age: u8) -> TaskState {
     TaskState {
-        age: age,
+        age,
         job: Job::Empty,
     }
 }
 
 pub fn counts(arrived: u32, finished: u32, replaced: u32) -> Counts {
     Counts {
-        arrived: arrived,
-        finished: finished,
-        replaced: replaced,
+        arrived,
+        finished,
+        replaced,
     }
 }
 
@@ -96,8 +91,7 @@ pub fn pair_at(a: TaskState, b: TaskState, reading: u32) -> Run {
 
 // One job, in hand or finished.
 fn seen(x: TaskState) -> Counts {
-    let job = x.job;
-    match job {
+    match x.job {
         Job::Empty => counts(1, 1, 0),
         Job::InHand(_) => counts(1, 0, 0),
     }

@@ -18,7 +18,7 @@ fn report_at(rt: &impl Print, label: &[u8], r: Run, choice: u8, finished: bool, 
     );
 }
 
-// A report of a choice.
+// A report of a choice. Eight parameters, and no struct: `reports::report` takes these, and each case gives its own.
 fn taken(
     rt: &impl Print,
     label: &[u8],

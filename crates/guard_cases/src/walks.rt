@@ -1,39 +1,28 @@
 // Runs with built tables, a line a tick: each report is the first that is taken, of all that there are.
 use crate::{made, show};
 use cases::{lines, sets};
-use guard::runs::{Run, Taken};
+use guard::runs::Run;
 use guard::{asks, reports};
 use shield::builder;
 use tasks::sets::Set;
 
-fn is_done(t: Taken) -> bool {
-    match t {
-        Taken::Done => true,
-        Taken::Refused(_) => false,
-    }
-}
-
 fn asked(rt: &impl Print, s: Set, table: &[u8], r: Run, proposal: u8) -> Run {
     let a = asks::ask(s, table, r, proposal);
-    let answer = a.answer;
-    lines::put_number(rt, b" ask ", proposal as u64);
-    show::put_chosen(rt, answer);
+    lines::put_number(rt, b" ask ", proposal);
+    lines::put_answer(rt, b" choice ", a.answer);
     a.run
 }
 
 // The reports from one on, in a circle: finished in the ninth bit, the arrivals below it.
 fn reported(rt: &impl Print, s: Set, r: Run, from: u16) -> Run {
     let next = r.reading.wrapping_add(1);
-    let mut j: u16 = 0;
-    while j < 512 {
+    for j in 0..512 {
         let bits = (from % 512 + j) % 512;
         let a = reports::report(s, r, next, 256 <= bits, (bits % 256) as u8);
-        let answer = a.answer;
-        if is_done(answer) {
-            lines::put_number(rt, b" report ", bits as u64);
+        if a.answer.is_ok() {
+            lines::put_number(rt, b" report ", bits);
             return a.run;
         }
-        j += 1;
     }
     r
 }
@@ -45,20 +34,16 @@ fn proposed(count: u8, i: u8) -> u8 {
 
 fn tick(rt: &impl Print, s: Set, table: &[u8], r: Run, i: u8) -> Run {
     let a = asked(rt, s, table, r, proposed(s.count, i));
-    let b = reported(rt, s, a, i as u16 * 37);
+    let b = reported(rt, s, a, u16::from(i) * 37);
     show::put_run(rt, b);
     b
 }
 
 fn ticks(rt: &impl Print, label: &[u8], s: Set, table: &[u8]) {
     let mut r = made::started(s, 4294967290);
-    let mut i: u8 = 0;
-    while i < 24 {
-        lines::put(rt, b"tick of ");
-        lines::put(rt, label);
-        lines::put(rt, b":");
+    for i in 0..24 {
+        lines::put_label(rt, b"tick of ", label);
         r = tick(rt, s, table, r, i);
-        i += 1;
     }
 }
 

@@ -5,8 +5,8 @@ use mathlib.Core.List.{[], ◌∷◌}
 use Prim.Native.Nat.{◌≤◌}
 use native.Mathlib.Omega.{arith}
 use Rattle.tasks.specs.declared.sets.Set.{Set}
-use Rattle.tasks.specs.declared.sets.Tested.{Tested}
-use Rattle.tasks.specs.declared.sets.Tested.TheVariants.{States, Refused}
+use Rattle.std.specs.Prelude.{Result, Ok, Err, ℕ}
+use Rattle.tasks.specs.declared.refusals.Refusal.{Refusal}
 use Rattle.tasks.specs.Sets.{states_of, test_set, said_tested}
 use Rattle.tasks.specs.Valid.{Valid}
 use Rattle.tasks.proofs.Valid.{valid, passes, refused_number}
@@ -16,9 +16,9 @@ module _ (s : Set) where
   pub taken_exactly : ((said_tested (test_set s)).number ≡ 0) ↔ Valid s
   taken_exactly = (by (test_set s) refl, λ v. ap (λ t. (said_tested t).number) (passes s v))
     where
-      by : (t : Tested) → test_set s ≡ t → (said_tested t).number ≡ 0 → Valid s
-      by (States n) q e = (valid s n q).0
-      by (Refused f) q e = absurd (omega (arith, (refused_number s f q).0))
+      by : (t : Result ℕ Refusal) → test_set s ≡ t → (said_tested t).number ≡ 0 → Valid s
+      by (Ok n) q e = (valid s n q).0
+      by (Err f) q e = absurd (omega (arith, (refused_number s f q).0))
 
   -- and then it answers the number of states
   pub taken_states : Valid s → (said_tested (test_set s)).values ≡ states_of s ∷ []
@@ -28,6 +28,6 @@ module _ (s : Set) where
   pub taken_or_refused : ((said_tested (test_set s)).number ≡ 0) ⊎ ((3 ≤ (said_tested (test_set s)).number) × ((said_tested (test_set s)).number ≤ 6))
   taken_or_refused = by (test_set s) refl
     where
-      by : (t : Tested) → test_set s ≡ t → ((said_tested t).number ≡ 0) ⊎ ((3 ≤ (said_tested t).number) × ((said_tested t).number ≤ 6))
-      by (States n) q = inl refl
-      by (Refused f) q = inr (refused_number s f q)
+      by : (t : Result ℕ Refusal) → test_set s ≡ t → ((said_tested t).number ≡ 0) ⊎ ((3 ≤ (said_tested t).number) × ((said_tested t).number ≤ 6))
+      by (Ok n) q = inl refl
+      by (Err f) q = inr (refused_number s f q)

@@ -17,6 +17,8 @@ use Rattle.arena.specs.Plays.{Scheduler, Tick, Misses, MissesIn, Never}
 use Rattle.arena.proofs.Tests.{T_false}
 use Rattle.arena.proofs.Tables.{passes_cong}
 use Rattle.arena.proofs.Exact as Exact
+use Rattle.std.specs.Prelude.{Result}
+use Rattle.tasks.specs.declared.refusals.Refusal.{Refusal}
 use Rattle.tasks.specs.declared.sets.Set.{Set}
 use Rattle.tasks.specs.Refusals.{no_safe_schedule}
 use Rattle.tasks.specs.Sets.{states_of}
@@ -35,11 +37,11 @@ use Rattle.promises.proofs.Tables.{names_in, tested_iff}
 use Rattle.promises.proofs.Shielded.{Shielded, shielded, shield_bytes, shield_names, shield_live}
 
 -- the builder refuses nothing
-abbrev pub Answered : Built → Type 0
+abbrev pub Answered : Result Built Refusal → Type 0
 Answered r = (said_built r).number ≡ 0
 
 -- it finds no safe schedule
-abbrev pub NoSchedule : Built → Type 0
+abbrev pub NoSchedule : Result Built Refusal → Type 0
 NoSchedule r = (said_built r).number ≡ no_safe_schedule
 
 -- the tester refuses nothing
@@ -47,7 +49,7 @@ abbrev pub TestPasses : Set → List ℕ → Type 0
 TestPasses s table = (said_verdict (test_of s table)).number ≡ 0
 
 -- A BUILD THAT IS ANSWERED
-module _ (s : Set) (t w t' w' : List ℕ) (r : Built) (B : Builds s t w r t' w') (a : Answered r) where
+module _ (s : Set) (t w t' w' : List ℕ) (r : Result Built Refusal) (B : Builds s t w r t' w') (a : Answered r) where
   S : Shielded s r t'
   S = shielded s t w t' w' r B a
 
@@ -97,7 +99,7 @@ module _ (s : Set) (t w t' w' : List ℕ) (r : Built) (B : Builds s t w r t' w')
   answered_exactly = ap (λ r. (said_built r).values) S.answer
 
 -- A BUILD THAT IS REFUSED WITH 8
-module _ (s : Set) (t w t' w' : List ℕ) (r : Built) (B : Builds s t w r t' w') (n : NoSchedule r) where
+module _ (s : Set) (t w t' w' : List ℕ) (r : Result Built Refusal) (B : Builds s t w r t' w') (n : NoSchedule r) where
   N : Made s r
   N = made s (length t) (length w) r (λ h. omega arith) B.answer
 
@@ -118,7 +120,7 @@ module _ (s : Set) (t w t' w' : List ℕ) (r : Built) (B : Builds s t w r t' w')
       ((tested_iff s N.set table bytes (passes_tried s table (said_passes s table e)).long).1 e)
 
 -- A VALID SET, WITH ROOM ENOUGH IN BOTH BUFFERS
-module _ (s : Set) (v : Valid s) (t w t' w' : List ℕ) (ht : states_of s ≤ length t) (hw : states_of s ≤ length w) (r : Built) (B : Builds s t w r t' w') where
+module _ (s : Set) (v : Valid s) (t w t' w' : List ℕ) (ht : states_of s ≤ length t) (hw : states_of s ≤ length w) (r : Result Built Refusal) (B : Builds s t w r t' w') where
   judged : r ≡ build_if s (safe (arena_of s) 0)
   judged = B.answer ∙ with_room s (valid-passes s v) t w ht hw
 

@@ -8,6 +8,8 @@ use lib.Dec.{T, eqb}
 use lib.ListN.{length, drop, length-append}
 use Rattle.arena.specs.Arena.{safe, shield}
 use Rattle.arena.proofs.Exact as Exact
+use Rattle.std.specs.Prelude.{Result}
+use Rattle.tasks.specs.declared.refusals.Refusal.{Refusal}
 use Rattle.tasks.specs.declared.sets.Set.{Set}
 use Rattle.tasks.specs.Sets.{states_of, Passed}
 use Rattle.game.specs.Game.{arena_of}
@@ -20,14 +22,14 @@ use Rattle.shield.proofs.Done.{Made, made, made_safe}
 use Rattle.shield.proofs.EntryLaws.{marks_lt, marks_zero, names_marks, list_length, list_at}
 
 -- the set passed its own test, the start is safe, the answer is that of a safe start, and the table holds the shield
-pub record Shielded (s : Set) (r : Built) (table : List ℕ) : Type 0 where
+pub record Shielded (s : Set) (r : Result Built Refusal) (table : List ℕ) : Type 0 where
   pub set : Passed s
   pub start : T (safe (arena_of s) 0)
   pub answer : r ≡ build_if s true
   pub room : states_of s ≤ length table
   pub entry : (i : ℕ) → i < states_of s → entry_at table i ≡ entry_of (shield (arena_of s) i)
 
-pub shielded : (s : Set) (t w t' w' : List ℕ) (r : Built) → Builds s t w r t' w' → (said_built r).number ≡ 0 → Shielded s r t'
+pub shielded : (s : Set) (t w t' w' : List ℕ) (r : Result Built Refusal) → Builds s t w r t' w' → (said_built r).number ≡ 0 → Shielded s r t'
 shielded s t w t' w' r B a =
     let M : Made s r = made s (length t) (length w) r (λ h. absurd (omega arith)) B.answer in
     let v = made_safe s r M a in
@@ -42,7 +44,7 @@ shielded s t w t' w' r B a =
       entry = λ i h. ap (λ l. entry_at l i) e ∙ list_at f (states_of s) (drop (states_of s) t) i h;
     }
 
-module _ (s : Set) (r : Built) (table : List ℕ) (S : Shielded s r table) where
+module _ (s : Set) (r : Result Built Refusal) (table : List ℕ) (S : Shielded s r table) where
   -- its entries are bytes
   pub shield_bytes : Bytes (states_of s) table
   shield_bytes i h = subst (λ (e : ℕ). e < 256) (sym (S.entry i h)) (marks_lt 8 (shield (arena_of s) i))

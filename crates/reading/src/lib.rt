@@ -12,6 +12,7 @@ pub fn fill<R: Read>(input: &mut R, buf: &mut [u8]) -> usize
     ensures bytes { Consumes (R.remaining input.old) (R.remaining input.new) (take result buf.new) }
 {
     let mut done = 0;
+    // A `while`, and no `for`: each read says where the next one begins, and how many there are is not known before.
     while done < buf.len() {
         match input.read(&mut buf[done..]) {
             Ok(0) => break,

@@ -1,3 +1,2 @@
 mod Fitted
-mod Kept
 mod LineLaws

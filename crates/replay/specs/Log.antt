@@ -1,15 +1,16 @@
 -- What a line, and a piece of the log, leaves of all that is held.
-use Rattle.std.specs.Prelude.{ℕ, ◌+◌, ◌%◌, ◌^◌, false, cond, List, [], ◌∷◌, take, ◌==◌, nat_lt, slice_set}
-use Rattle.commands.specs.declared.lines.Parsed.{Parsed}
-use Rattle.commands.specs.declared.lines.Parsed.TheVariants.{Mangled, Taken}
+use Rattle.std.specs.Prelude.{ℕ, ◌≡◌, ◌+◌, ◌%◌, ◌^◌, cond, List, [], ◌∷◌, take, Option, Some, None, ◌==◌, nat_lt, slice_set}
+use Rattle.commands.specs.declared.lines.Command.{Command}
 use Rattle.commands.specs.Lines.{parse_of}
+use Rattle.desk_buffers.specs.Buffers.{Same}
 use Rattle.desk.specs.After.{Held, held_of, no_desk, command_after}
+use Rattle.desk.specs.declared.Desk.{Desk}
 use Rattle.replay.specs.declared.Log.{Log}
 
 -- a mangled line changes nothing
-abbrev pub parsed_after : Parsed → List ℕ → Held → Held
-parsed_after Mangled line h = h
-parsed_after (Taken c) line h = command_after c.kind c.values line h
+abbrev pub parsed_after : Option Command → List ℕ → Held → Held
+parsed_after None line h = h
+parsed_after (Some c) line h = command_after c.kind c.values line h
 
 abbrev pub line_after : List ℕ → Held → Held
 line_after line h = parsed_after (parse_of h.buffers.lengths line) line h
@@ -23,12 +24,18 @@ pub record Logged : Type 0 where
   pub used : ℕ
   pub lines : ℕ
 
-abbrev pub logged_of : Log → List ℕ → List ℕ → List ℕ → List ℕ → List ℕ → Logged
-logged_of g line t w f x = record { held = held_of g.desk t w f x; line = line; used = g.used; lines = g.lines }
+abbrev pub logged_of : Log → Desk → Logged
+logged_of g d = record { held = held_of d; line = g.line.now; used = g.used; lines = g.lines }
+
+-- the log g and the desk d have become k and e, over the same memory, and what is kept is n
+pub record Goes (g k : Log) (d e : Desk) (n : Logged) : Type 0 where
+  pub same : Same d.buffers e.buffers
+  pub line : k.line.ghost_name ≡ g.line.ghost_name
+  pub kept : logged_of k e ≡ n
 
 -- at the beginning nothing is held, and no byte is read
-abbrev pub no_log : Log
-no_log = record { desk = no_desk; used = 0; lines = 0; ended = false }
+abbrev pub no_log : List ℕ → List ℕ → List ℕ → List ℕ → List ℕ → Logged
+no_log line t w f x = record { held = no_desk t w f x; line = line; used = 0; lines = 0 }
 
 -- an LF ends the line
 unfoldable pub ended_line : Logged → Logged

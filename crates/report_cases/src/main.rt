@@ -3,31 +3,16 @@
 
 ghost use Rattle.std.specs.Prelude.{◌≡◌, ◌≤◌, length, take};
 
-use cases::lines::{put, put_number, put_refusal};
-use reporter::Reported;
+use cases::lines::{put, put_answer, put_number};
 
 const PAIR: [u8; 31] = *b"set PAIR\nhard 2 1 2\nhard 2 1 2\n";
-
-fn put_answer(rt: &impl Print, r: Reported) {
-    match r {
-        Reported::Length(n) => put_number(rt, b" length ", n as u64),
-        Reported::Refused(f) => put_refusal(rt, f),
-    }
-}
 
 // Every buffer is dots before a call: how many bytes it has up to the last that is none.
 fn changed(buf: &[u8]) -> usize
     ensures in_bounds { result ≤ length buf.now }
     ensures prefix { result ≡ length (take result buf.now) }
 {
-    let mut n = buf.len();
-    while 0 < n {
-        if buf[n - 1] != b'.' {
-            return n;
-        }
-        n -= 1;
-    }
-    n
+    buf.iter().rposition(|b| *b != b'.').map_or(0, |i| i + 1)
 }
 
 fn show(
@@ -40,11 +25,15 @@ fn show(
 ) {
     put(rt, label);
     put(rt, b":");
-    put_answer(rt, reporter::report(sheet, table, work, output));
+    put_answer(
+        rt,
+        b" length ",
+        reporter::report(sheet, table, work, output),
+    );
     let n = changed(output);
-    put_number(rt, b" changed ", n as u64);
-    put_number(rt, b" ", changed(table) as u64);
-    put_number(rt, b" ", changed(work) as u64);
+    put_number(rt, b" changed ", n);
+    put_number(rt, b" ", changed(table));
+    put_number(rt, b" ", changed(work));
     put(rt, b"\n");
     put(rt, &output[..n]);
 }

@@ -4,7 +4,6 @@ use Prim.Native.Nat.{ℕ, zero, suc, ◌+◌, ◌*◌, ◌^◌, ◌≤◌, ◌<�
 use native.Mathlib.Omega.{arith}
 use lib.ListN.{length, take, drop, get_or, length-append, length-take}
 use lib.Seq.{get_or-drop}
-use Rattle.tasks.specs.declared.refusals.Refusal.{Refusal}
 use Rattle.tasks.specs.declared.sets.Set.{Set}
 use Rattle.tasks.specs.Sets.{characters}
 use Rattle.sheet_form.specs.Form.{each}
@@ -24,10 +23,10 @@ shield_length safe rounds start a b c =
     simp length-append
     (omega (arith, field_length (bytes "shield ") 4 safe a, field_length (bytes " rounds ") 4 rounds b, field_length (bytes " start ") 2 start c))
 
-pub refused_length : (f : Refusal) → f.number < 10 ^ 3 → f.place < 10 ^ 10 → length (refused_line f) ≤ 23
+pub refused_length : (number place : ℕ) → number < 10 ^ 3 → place < 10 ^ 10 → length (refused_line number place) ≤ 23
 unfolding refused_line
-refused_length f n p =
-    simp length-append (omega (arith, field_length (bytes "refused ") 2 f.number n, field_length (bytes " ") 9 f.place p))
+refused_length number place n p =
+    simp length-append (omega (arith, field_length (bytes "refused ") 2 number n, field_length (bytes " ") 9 place p))
 
 -- entries of at most three digits
 abbrev pub Short : List ℕ → Type 0

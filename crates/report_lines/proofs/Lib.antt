@@ -1,4 +1,3 @@
-pub mod Powers
 pub mod Numbers
 pub mod Rows
 pub mod Lengths

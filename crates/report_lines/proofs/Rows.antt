@@ -1,13 +1,17 @@
 -- The rows of a table, one after the other. Assumes nothing.
-use mathlib.Core.Path.{◌≡◌, refl, sym, ap, ap₂, ◌∙◌}
-use mathlib.Core.Logic.{◌⊎◌, inl, inr, ⊎_elim}
-use mathlib.Core.List.{List, [], ◌++◌}
-use Prim.Native.Nat.{ℕ, ◌+◌, ◌-◌, ◌*◌, ◌/◌, ◌%◌, ◌<◌, min}
+use mathlib.Core.Path.{◌≡◌, refl, sym, ap, ap₂, ◌∙◌, subst}
+use mathlib.Core.List.{List, [], ◌∷◌, ◌++◌}
+use Prim.Native.Nat.{ℕ, zero, suc, ◌+◌, ◌*◌, ◌/◌, ◌<◌, min}
 use native.Mathlib.Numerals.{add-one}
 use native.Mathlib.Omega.{arith}
 use lib.ListN.{length, take, drop, length-drop}
-use lib.Seq.{take_all}
-use Rattle.arena.proofs.Tests.{lt_or_le}
+use Rattle.std.proofs.lemmas.List.{drop-drop}
+use Rattle.std.proofs.Common.{Some, None}
+use Rattle.std.specs.Iterator.Adapters.{enumerate_source, enumerate_count, enumerate_steps}
+use Rattle.std.specs.Slice.Iter.{chunks_rest, chunks_size, chunks_steps}
+use Rattle.std.specs.declared.iter.Enumerate.{Enumerate}
+use Rattle.std.specs.declared.slice.Chunks.{Chunks}
+use denote.Ref.{Bor}
 use Rattle.report_lines.specs.Lines.{row_line, row_lines}
 
 pub rows_none : (t : List ℕ) → [] ≡ row_lines t 0
@@ -18,26 +22,45 @@ rows_more : (t : List ℕ) (k : ℕ) → row_lines t k ++ row_line (8 * k) (take
 unfolding row_lines
 rows_more t k = sym (ap (row_lines t) (add-one k))
 
--- the row that begins at an index of a table, and where it ends
-module _ (t : List ℕ) (i e : ℕ) (h : i < length t) (q : (i % 8 ≡ 0) ⊎ (i ≡ length t)) (w : e ≡ min (i + 8) (length t)) where
-  whole : i % 8 ≡ 0
-  whole = ⊎_elim (λ z. z) (λ z. absurd (omega arith)) q
+-- a front of n bytes, or of all where they are fewer
+front : (n : ℕ) (x y : List ℕ) → length x ≡ min n (length (x ++ y)) → (x ≡ take n (x ++ y)) × (y ≡ drop n (x ++ y))
+front zero [] y h = (refl, refl)
+front zero (a ∷ x) y h = let z : ⊥ = omega arith in absurd z
+front (suc n) [] [] h = (refl, refl)
+front (suc n) [] (b ∷ y) h = let z : ⊥ = omega arith in absurd z
+front (suc n) (a ∷ x) y h = let f = front n x y (omega arith) in (ap (λ l. a ∷ l) f.0, f.1)
 
-  pub row_end : (e % 8 ≡ 0) ⊎ (e ≡ length t)
-  row_end = ⊎_elim (λ l. inl (omega (arith, whole))) (λ l. inr (omega arith)) (lt_or_le (i + 8) (length t))
+-- the rows of a table that are still to come
+pub record Coming (t : List ℕ) (s : Enumerate (Chunks ℕ)) : Type 0 where
+  pub size : chunks_size (enumerate_source s) ≡ 8
+  pub rest : chunks_rest (enumerate_source s) ≡ drop (8 * enumerate_count s) t
+  pub begun : 8 * enumerate_count s < length t + 8
 
-  entries : take (e - i) (drop i t) ≡ take 8 (drop i t)
-  entries = ⊎_elim (λ l. ap (λ n. take n (drop i t)) (eight l)) (λ l. take_all (e - i) (drop i t) (omega (arith, length-drop i t)) ∙ sym (take_all 8 (drop i t) (omega (arith, length-drop i t)))) (lt_or_le (i + 8) (length t))
-    where
-      eight : i + 8 < length t → e - i ≡ 8
-      eight l = omega arith
+pub all_coming : (t : List ℕ) (s : Enumerate (Chunks ℕ)) → chunks_size (enumerate_source s) ≡ 8 → chunks_rest (enumerate_source s) ≡ t → enumerate_count s ≡ 0 → Coming t s
+all_coming t s a b e = record { size = a; rest = rw e b; begun = omega arith }
 
-  pub row_next : row_lines t ((i + 7) / 8) ++ row_line i (take (e - i) (drop i t)) ≡ row_lines t ((e + 7) / 8)
-  row_next =
-      let a : (i + 7) / 8 ≡ i / 8 = omega (arith, whole) in
-      let b : i ≡ 8 * (i / 8) = omega (arith, whole) in
-      let c : i / 8 + 1 ≡ (e + 7) / 8 = omega (arith, whole) in
-      ap (λ l. row_lines t ((i + 7) / 8) ++ row_line i l) entries
-      ∙ ap₂ (λ k n. row_lines t k ++ row_line n (take 8 (drop n t))) a b
-      ∙ rows_more t (i / 8)
-      ∙ ap (row_lines t) c
+module _ {t : List ℕ} {s : Enumerate (Chunks ℕ)} (c : Coming t s) where
+  -- one of them comes
+  module _ (k : ℕ) (x : Bor (List ℕ)) (u : Enumerate (Chunks ℕ)) (n : enumerate_steps chunks_steps s (Some (k, x)) u) where
+    its_front : (x.now ≡ take 8 (drop (8 * k) t)) × (chunks_rest (enumerate_source u) ≡ drop 8 (drop (8 * k) t))
+    its_front =
+        let e : x.now ++ chunks_rest (enumerate_source u) ≡ drop (8 * k) t = sym n.0.1.0 ∙ c.rest ∙ ap (λ i. drop (8 * i) t) (sym n.1) in
+        subst (λ r. (x.now ≡ take 8 r) × (chunks_rest (enumerate_source u) ≡ drop 8 r)) e
+        (front 8 x.now (chunks_rest (enumerate_source u)) (n.0.1.1 ∙ ap₂ min c.size (ap length n.0.1.0)))
+
+    pub coming_next : Coming t u
+    coming_next =
+        let m : 8 * k + 8 ≡ 8 * enumerate_count u = omega (arith, n.1, n.2) in
+        record {
+          size = n.0.0 ∙ c.size;
+          rest = its_front.1 ∙ drop-drop 8 (8 * k) t ∙ ap (λ i. drop i t) m;
+          begun = omega (arith, n.0.1.2, n.1, n.2, ap length c.rest, length-drop (8 * enumerate_count s) t);
+        }
+
+    pub rows_next : row_lines t (enumerate_count s) ++ row_line (8 * k) x.now ≡ row_lines t (enumerate_count u)
+    rows_next =
+        ap₂ (λ i l. row_lines t i ++ row_line (8 * k) l) (sym n.1) its_front.0 ∙ rows_more t k ∙ ap (row_lines t) (omega (arith, n.1, n.2))
+
+  -- none is left
+  pub coming_end : (u : Enumerate (Chunks ℕ)) → enumerate_steps chunks_steps s None u → enumerate_count s ≡ (length t + 7) / 8
+  coming_end u n = omega (arith, c.begun, n.0.1.0, ap length c.rest, length-drop (8 * enumerate_count s) t)

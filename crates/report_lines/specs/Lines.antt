@@ -1,6 +1,5 @@
 -- The report's lines, byte by byte.
 use Rattle.std.specs.Prelude.{cond, List, [], ◌∷◌, ◌++◌, ℕ, zero, suc, ◌+◌, ◌*◌, ◌/◌, ◌%◌, leb, ltb, take, drop}
-use Rattle.tasks.specs.declared.refusals.Refusal.{Refusal}
 use Rattle.tasks.specs.declared.sets.Set.{Set}
 use Rattle.tasks.specs.Sets.{characters}
 use Rattle.texts.specs.Texts.{bytes}
@@ -43,5 +42,5 @@ unfoldable pub rows_text : ℕ → List ℕ → List ℕ
 rows_text S table = cond (leb S 64) (row_lines table ((S + 7) / 8)) []
 
 -- a refusal, in place of all these: its number and place
-unfoldable pub refused_line : Refusal → List ℕ
-refused_line f = field (bytes "refused ") f.number ++ field (bytes " ") f.place ++ bytes "\n"
+unfoldable pub refused_line : ℕ → ℕ → List ℕ
+refused_line number place = field (bytes "refused ") number ++ field (bytes " ") place ++ bytes "\n"

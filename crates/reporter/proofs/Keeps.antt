@@ -6,11 +6,11 @@ use lib.Dec.{ltb, ltb→lt}
 use lib.ListN.{length, drop, get_or}
 use lib.Seq.{drop_at}
 use Rattle.arena.proofs.Tests.{by_cond}
+use Rattle.std.specs.Prelude.{Result, Ok, Err}
+use Rattle.tasks.specs.declared.refusals.Refusal.{Refusal}
 use Rattle.tasks.specs.Refusals.{answered, refusing, short}
 use Rattle.shield.specs.declared.builder.Built.{Built}
 use Rattle.shield.specs.Build.{build_of, Builds}
-use Rattle.sheet_reader.specs.declared.ReadAnswer.{ReadAnswer}
-use Rattle.sheet_reader.specs.declared.ReadAnswer.TheVariants as Read
 use Rattle.sheet_reader.specs.Reading.{read_text, said_read}
 use Rattle.sheet_reader.proofs.Readings.{read_taken}
 use Rattle.reporter.specs.Report.{room, Told, Left, told_read, told_of, report_of, said_reported}
@@ -38,13 +38,13 @@ module _ (sheet t w o : List ℕ) where
   unread_keeps z =
       by_cond (λ (x : Left). (x.table ≡ t) × (x.work ≡ w)) (ltb (length o) room) _ _ (λ _. (refl, refl)) (λ _. by (read_text sheet).answer refl)
     where
-      by : (a : ReadAnswer) → (read_text sheet).answer ≡ a → let x = told_read (read_text sheet).set t w a in (x.table ≡ t) × (x.work ≡ w)
-      by (Read.Refused f) e = (refl, refl)
-      by Read.Taken e = absurd (z (ap (λ a. (said_read (record { answer = a; set = (read_text sheet).set })).number) e))
+      by : (a : Result Unit Refusal) → (read_text sheet).answer ≡ a → let x = told_read (read_text sheet).set t w a in (x.table ≡ t) × (x.work ≡ w)
+      by (Err f) e = (refl, refl)
+      by (Ok _) e = absurd (z (ap (λ a. (said_read (record { answer = a; set = (read_text sheet).set })).number) e))
 
   -- with room for a report, a sheet that it takes leaves in them what a build of its set leaves
   pub read_builds : (said_read (read_text sheet)).number ≡ 0 → room ≤ length o
-      → let x = report_of sheet t w o in (r : Built) × Builds (read_text sheet).set t w r x.table x.work
+      → let x = report_of sheet t w o in (r : Result Built Refusal) × Builds (read_text sheet).set t w r x.table x.work
   read_builds a h =
       let s = (read_text sheet).set in
       let r = build_of s (length t) (length w) in

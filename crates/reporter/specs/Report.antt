@@ -1,23 +1,20 @@
 -- The report on a sheet: what the call answers, and what it leaves in everything that it was lent.
-use Rattle.std.specs.Prelude.{cond, List, [], ◌∷◌, ◌++◌, ◌≡◌, ℕ, ◌≤◌, ltb, length, drop}
+use Rattle.std.specs.Prelude.{cond, List, [], ◌∷◌, ◌++◌, ◌≡◌, ℕ, ◌≤◌, ltb, length, drop, Result, Ok, Err}
+use Rattle.tasks.specs.declared.refusals.Refusal.{Refusal}
 use Rattle.tasks.specs.declared.sets.Set.{Set}
-use Rattle.tasks.specs.Refusals.{Said, answered, refusing, short}
+use Rattle.tasks.specs.Refusals.{Said, answered, refusing, number_of, short}
 use Rattle.tasks.specs.Sets.{states_of}
 use Rattle.shield.specs.declared.builder.Built.{Built}
 use Rattle.shield.specs.Shield.{shield_table}
 use Rattle.shield.specs.Build.{build_of, table_built, work_built}
-use Rattle.sheet_reader.specs.declared.ReadAnswer.{ReadAnswer}
-use Rattle.sheet_reader.specs.declared.ReadAnswer.TheVariants as Read
 use Rattle.sheet_reader.specs.Reading.{read_text}
 use Rattle.texts.specs.Puts.{Puts}
-use Rattle.reporter.specs.declared.Reported.{Reported}
-use Rattle.reporter.specs.declared.Reported.TheVariants.{Length, Refused}
 use Rattle.report_lines.specs.Lines.{set_line, shield_line, rows_text, refused_line}
 
 -- the lines of what the builder answers for a set: all of them, or that of the refusal
-abbrev pub built_text : Set → Built → List ℕ
-built_text s (Built.Done safe rounds start) = set_line s (states_of s) ++ shield_line safe rounds start ++ rows_text (states_of s) (shield_table s)
-built_text s (Built.Refused f) = refused_line f
+abbrev pub built_text : Set → Result Built Refusal → List ℕ
+built_text s (Ok b) = set_line s (states_of s) ++ shield_line b.safe b.rounds b.start ++ rows_text (states_of s) (shield_table s)
+built_text s (Err f) = refused_line (number_of f.reason) f.place
 
 -- a report's bytes, and those of table and work after it
 pub record Told : Type 0 where
@@ -25,13 +22,13 @@ pub record Told : Type 0 where
   pub table : List ℕ
   pub work : List ℕ
 
-abbrev pub told_built : Set → List ℕ → List ℕ → Built → Told
+abbrev pub told_built : Set → List ℕ → List ℕ → Result Built Refusal → Told
 told_built s t w b = record { text = built_text s b; table = table_built s b t; work = work_built s b w }
 
 -- the set of a sheet goes to the builder; a sheet that is refused leaves table and work as they are
-abbrev pub told_read : Set → List ℕ → List ℕ → ReadAnswer → Told
-told_read s t w Read.Taken = told_built s t w (build_of s (length t) (length w))
-told_read s t w (Read.Refused f) = record { text = refused_line f; table = t; work = w }
+abbrev pub told_read : Set → List ℕ → List ℕ → Result Unit Refusal → Told
+told_read s t w (Ok _) = told_built s t w (build_of s (length t) (length w))
+told_read s t w (Err f) = record { text = refused_line (number_of f.reason) f.place; table = t; work = w }
 
 -- the report on a sheet, with what table and work held before it
 unfoldable pub told_of : List ℕ → List ℕ → List ℕ → Told
@@ -43,22 +40,22 @@ room = 390
 
 -- an answer, and the bytes of table, work and output after it
 pub record Left : Type 0 where
-  pub answer : Reported
+  pub answer : Result ℕ Refusal
   pub table : List ℕ
   pub work : List ℕ
   pub output : List ℕ
 
-abbrev pub leaving : Reported → List ℕ → List ℕ → List ℕ → Left
+abbrev pub leaving : Result ℕ Refusal → List ℕ → List ℕ → List ℕ → Left
 leaving r t w o = record { answer = r; table = t; work = w; output = o }
 
 -- the report's length, and the report in the output's first bytes; those beyond stay
 abbrev pub placed : Told → List ℕ → Left
-placed x o = leaving (Length (length x.text)) x.table x.work (x.text ++ drop (length x.text) o)
+placed x o = leaving (Ok (length x.text)) x.table x.work (x.text ++ drop (length x.text) o)
 
 -- an output without room for every report: 7, before all else, and no byte changes
 unfoldable pub report_of : List ℕ → List ℕ → List ℕ → List ℕ → Left
 report_of sheet t w o =
-    cond (ltb (length o) room) (leaving (Refused (short room)) t w o)
+    cond (ltb (length o) room) (leaving (Err (short room)) t w o)
     (placed (told_of sheet t w) o)
 
 -- the output p has become q, with a report from its first byte on up to n, and table and work have become t and w
@@ -69,6 +66,6 @@ pub record Tells (p q : List ℕ) (n : ℕ) (t w : List ℕ) (x : Told) : Type 0
   pub work : w ≡ x.work
 
 -- the answer in the paper's terms
-abbrev pub said_reported : Reported → Said
-said_reported (Length n) = answered (n ∷ [])
-said_reported (Refused f) = refusing 1 f
+abbrev pub said_reported : Result ℕ Refusal → Said
+said_reported (Ok n) = answered (n ∷ [])
+said_reported (Err f) = refusing 1 f

@@ -7,6 +7,7 @@ use native.Mathlib.Omega.{arith}
 use lib.Dec.{T, eqb, leb, ltb, leb→le, lt→ltb}
 use lib.ListN.{get_or}
 use borrow.Author.Tests.{lt-ltb, le-ltb, le-leb, eqb-false}
+use Rattle.std.specs.Prelude.{Option, Some, None, is_some}
 use Rattle.arena.proofs.Tests.{T_false, and_by}
 use Rattle.tasks.specs.declared.sets.Task.{Task}
 use Rattle.tasks.specs.declared.sets.Set.{Set}
@@ -17,15 +18,14 @@ use Rattle.tasks.proofs.Valid.{passed_valid}
 use Rattle.game.specs.declared.states.TaskState.{TaskState}
 use Rattle.game.specs.States.{in_range, no_state, state_at}
 use Rattle.guard.specs.declared.runs.Counts.{Counts}
-use Rattle.guard.specs.declared.runs.Awaited.{Awaited}
 use Rattle.guard.specs.declared.runs.Run.{Run}
 use Rattle.guard.specs.declared.reports.Outcome.{Outcome}
-use Rattle.guard.specs.Runs.{tick_limit, seven, fresh_state, fresh_counts, no_counts, counts_at, start_run, start_of, start_tested, place_empty, legal_for, awaited_fits, awaits}
+use Rattle.guard.specs.Runs.{tick_limit, seven, fresh_state, fresh_counts, no_counts, counts_at, start_run, start_of, start_tested, place_empty, legal_for, awaited_fits}
 use Rattle.guard.specs.Ask.{ask_given, ask_of}
-use Rattle.guard.specs.Report.{flags_at, tick_at, first_such, impossible, state_after, counts_after, state_then, counts_then, run_after}
+use Rattle.guard.specs.Report.{flags_at, tick_at, impossible, state_after, counts_after, state_then, counts_then, run_after}
 use Rattle.guard.specs.Calls.{Call, ask, report, run_by, run_from, reached}
 use Rattle.guard.proofs.RunLaws.{seven_at, Fit, Fits, few_substitutions, open_ticks}
-use Rattle.safe_runs.proofs.Cases.{ask_case, named_case, report_case, none_such, possible_none}
+use Rattle.safe_runs.proofs.Cases.{NoMiss, ask_case, named_case, report_case, possible_none}
 use Rattle.safe_runs.proofs.Guarded.{choice_legal}
 use Rattle.safe_runs.proofs.TickSums.{fit_tick}
 
@@ -85,12 +85,12 @@ module _ (s : Set) (q : Passed s) where
   start_run_lem reading = ap (λ t. (start_tested s reading t).run) q
 
 -- AN ASK
-free_awaited : (s : Set) (r : Run) (a : Awaited) → T (not (awaits a)) → T (awaited_fits s r a) → r.substitutions ≤ r.ticks
-free_awaited s r Awaited.Nothing f t = leb→le r.substitutions r.ticks t
-free_awaited s r (Awaited.Choice c) f t = absurd f
+free_awaited : (s : Set) (r : Run) (a : Option ℕ) → T (not (is_some a)) → T (awaited_fits s r a) → r.substitutions ≤ r.ticks
+free_awaited s r None f t = leb→le r.substitutions r.ticks t
+free_awaited s r (Some c) f t = absurd f
 
 module _ (s : Set) (q : Passed s) (r : Run) (w : Fits s r) where
-  pub given_fits_lem : (p c : ℕ) → T (not (awaits r.awaited)) → T (not (eqb r.ticks tick_limit)) → T (legal_for s r.states c) → Fits s (ask_given r p c).run
+  pub given_fits_lem : (p c : ℕ) → T (not (is_some r.awaited)) → T (not (eqb r.ticks tick_limit)) → T (legal_for s r.states c) → Fits s (ask_given r p c).run
   unfolding ask_given
   given_fits_lem p c f m l = record {
     ticks = w.ticks;
@@ -124,7 +124,7 @@ module _ (s : Set) (q : Passed s) (r : Run) (w : Fits s r) (o : Outcome) where
   unfolding run_after state_then
   state_then_lem k h = place_task no_state s.count moved (state_at r.states) k (omega (arith, count_le s q)) h
 
-  pub after_fits : r.ticks < tick_limit → T (not (impossible s r.states o)) → s.count ≤ first_such s r.states o true → Fits s (run_after s r o)
+  pub after_fits : r.ticks < tick_limit → T (not (impossible s r.states o)) → NoMiss s r.states o → Fits s (run_after s r o)
   unfolding run_after state_then counts_then tick_at
   after_fits l i m =
       let n = s.count in
@@ -133,7 +133,7 @@ module _ (s : Set) (q : Passed s) (r : Run) (w : Fits s r) (o : Outcome) where
         awaited = subst T (sym (le-leb r.substitutions (r.ticks + 1) (few_substitutions s r w))) tt;
         tasks = λ k h.
             fit_same _ _ _ _ (state_then_lem k h) (place_task no_counts n counted (counts_at r.counts) k (omega (arith, count_le s q)) h)
-            (fit_tick (task_at s k) ((passed_valid s q).tasks k h) (eqb o.choice (suc k)) (state_at r.states k) (flags_at o k) r.ticks (counts_at r.counts k) (w.tasks k h) (possible_none s r.states o i k h) (none_such s r.states o true m k h));
+            (fit_tick (task_at s k) ((passed_valid s q).tasks k h) (eqb o.choice (suc k)) (state_at r.states k) (flags_at o k) r.ticks (counts_at r.counts k) (w.tasks k h) (possible_none s r.states o i k h) (m k h));
         rest = λ k h l.
             empty_same _ _ _ _ (place_rest no_state n moved (state_at r.states) k l h) (place_rest no_counts n counted (counts_at r.counts) k l h) (w.rest k h l);
       }
@@ -144,7 +144,7 @@ module _ (s : Set) (q : Passed s) (table : List ℕ) where
   call_fits r w (ask p) = ask_fits_lem s q r w table p
   call_fits r w (report reading finished arrivals) =
       report_case s r reading finished arrivals (λ a. Fits s a.run) (λ _ _. w) (λ _. w) w w
-      (λ c e _. named_case s r _ (λ a. Fits s a.run) (λ _. w) (λ _ _. w) (after_fits s q r w _ (open_ticks s r w c e)))
+      (λ c e _. named_case s r _ (λ a. Fits s a.run) (λ _. w) (λ _ _ _. w) (after_fits s q r w _ (open_ticks s r w c e)))
 
   calls_fit : (r : Run) → Fits s r → (cs : List Call) → Fits s (run_from s table r cs)
   calls_fit r w [] = w

@@ -1,15 +1,16 @@
 -- With a table that passes the test, a run stays on states where the table is used, and no call on it is refused with 16, 19 or 21. Assumes nothing.
 use mathlib.Core.Path.{◌≡◌, refl, sym, ap₂, subst, ◌∙◌}
-use mathlib.Core.Bool.{Bool, true, not, ◌&&◌}
+use mathlib.Core.Bool.{Bool, not, ◌&&◌}
 use mathlib.Core.List.{List, [], ◌∷◌}
 use Prim.Native.Nat.{ℕ, zero, suc, ◌+◌, ◌*◌, ◌≤◌, ◌<◌}
 use native.Mathlib.Omega.{arith}
 use lib.Dec.{T, eqb, ltb, ltb→lt, T_not}
 use borrow.Author.Tests.{eq-eqb}
+use Rattle.std.specs.Prelude.{Some}
 use Rattle.arena.specs.Tests.{◌∈◌, all, all_below, imp}
 use Rattle.arena.specs.Arena.{Next, miss, lands, fine}
 use Rattle.arena.specs.Arena as arena
-use Rattle.arena.proofs.Tests.{nor, and_left, and_right, and_by, not_not, imp_at, all_below_at, all_at, first_hit, T_true}
+use Rattle.arena.proofs.Tests.{nor, and_left, and_right, and_by, not_not, imp_at, all_below_at, all_at}
 use Rattle.tasks.specs.declared.sets.Set.{Set}
 use Rattle.tasks.specs.Refusals.{Said, bad_entry, hard_miss, state_does_not_fit}
 use Rattle.tasks.specs.Sets.{task_at, states_to, states_of}
@@ -22,15 +23,14 @@ use Rattle.game.proofs.StateLaws.{states_pos, state_index}
 use Rattle.shield.specs.Entries.{names, entry_at, Bytes, live}
 use Rattle.shield.specs.Test.{faulty}
 use Rattle.shield.proofs.Tested.{Tried}
-use Rattle.guard.specs.declared.runs.Awaited.TheVariants as Awaited
 use Rattle.guard.specs.declared.runs.Run.{Run}
 use Rattle.guard.specs.declared.reports.Outcome.{Outcome}
 use Rattle.guard.specs.Runs.{seven, fresh_state, start_state, start_run, legal_for, fits, said_taken}
 use Rattle.guard.specs.Ask.{serves, choice_for, ask_given, ask_of, said_chosen}
-use Rattle.guard.specs.Report.{is_such, tick_at, first_such, impossible, run_after, report_of}
+use Rattle.guard.specs.Report.{impossible, run_after, report_of}
 use Rattle.guard.specs.Calls.{Call, ask, report, said_by, run_by, run_from, reached, Clean}
 use Rattle.guard.proofs.RunLaws.{Fits, fits_by, index_fits, open_ticks}
-use Rattle.safe_runs.proofs.Cases.{own, not_refused, Ready, ask_case, named_case, report_case, none_such, possible_none}
+use Rattle.safe_runs.proofs.Cases.{own, not_refused, Ready, ask_case, Misses, NoMiss, named_case, report_case, possible_none}
 use Rattle.safe_runs.proofs.Fitting.{place_task, count_le, start_fits, start_run_lem, given_fits_lem, state_then_lem, after_fits}
 use Rattle.safe_runs.proofs.Guarded.{serves_by, choice_named, choice_legal}
 use Rattle.safe_runs.proofs.Named.{next_to, named_in, next_go, next_miss}
@@ -56,7 +56,7 @@ module _ (s : Set) (table : List ℕ) (w : Tried s table) where
 pub record Good (s : Set) (table : List ℕ) (r : Run) : Type 0 where
   pub fits : Fits s r
   pub live : T (live table (index_of s r.states))
-  pub named : (c : ℕ) → r.awaited ≡ Awaited.Choice c → T (names (own s table r) c) × (c < 8)
+  pub named : (c : ℕ) → r.awaited ≡ Some c → T (names (own s table r) c) × (c < 8)
 
 -- an answer with another number
 clean : {a : Said} → T (not (eqb a.number bad_entry)) → T (not (eqb a.number hard_miss)) → T (not (eqb a.number state_does_not_fit)) → Clean a
@@ -66,7 +66,7 @@ clean {a} e m f = record { entry = other bad_entry e; miss = other hard_miss m; 
     other n t e = T_not (eqb a.number n) t (subst T (sym (eq-eqb a.number n e)) tt)
 
 -- nothing is awaited after a report
-pub after_free : (s : Set) (r : Run) (o : Outcome) (c : ℕ) → (run_after s r o).awaited ≡ Awaited.Choice c → ⊥
+pub after_free : (s : Set) (r : Run) (o : Outcome) (c : ℕ) → (run_after s r o).awaited ≡ Some c → ⊥
 unfolding run_after
 after_free s r o c z = let y : ◌≡◌ {A = ℕ} 0 1 = cc in omega arith
 
@@ -124,7 +124,7 @@ module _ (s : Set) (table : List ℕ) (w : Tried s table) (bytes : Bytes (states
           )
 
   -- A REPORT: every outcome of the awaited choice is no miss and on a state where the table is used
-  outcomes_land : (r : Run) → Good s table r → (c : ℕ) → r.awaited ≡ Awaited.Choice c
+  outcomes_land : (r : Run) → Good s table r → (c : ℕ) → r.awaited ≡ Some c
       → T (all (λ o. lands (live table) o.next) (outcomes_to s (index_of s r.states) c s.count))
   unfolding arena_of
   outcomes_land r g c e =
@@ -132,14 +132,14 @@ module _ (s : Set) (table : List ℕ) (w : Tried s table) (bytes : Bytes (states
       and_right (legal_at s (index_of s r.states) c) _ (named_fine s table w (index_of s r.states) c (index_fits s r g.fits) n.1 n.0)
 
   -- so none of them is a miss
-  pub good_outcomes : (r : Run) → Good s table r → (c : ℕ) → r.awaited ≡ Awaited.Choice c
+  pub good_outcomes : (r : Run) → Good s table r → (c : ℕ) → r.awaited ≡ Some c
       → (o : arena.Outcome Seen) → o ∈ (arena_of s).outs (index_of s r.states) c → o.next ≡ miss → ⊥
   unfolding arena_of
   good_outcomes r g c e o m z =
       subst (λ (n : Next). T (lands (live table) n)) z
       (all_at (λ o. lands (live table) o.next) (outcomes_to s (index_of s r.states) c s.count) (outcomes_land r g c e) m)
 
-  named_lands : (r : Run) → Good s table r → (o : Outcome) → r.awaited ≡ Awaited.Choice o.choice → T (not (impossible s r.states o))
+  named_lands : (r : Run) → Good s table r → (o : Outcome) → r.awaited ≡ Some o.choice → T (not (impossible s r.states o))
       → T (lands (live table) (next_to s r.states o s.count))
   named_lands r g o e t =
       all_at (λ o. lands (live table) o.next) (outcomes_to s (index_of s r.states) o.choice s.count) (outcomes_land r g o.choice e)
@@ -155,17 +155,17 @@ module _ (s : Set) (table : List ℕ) (w : Tried s table) (bytes : Bytes (states
       (g, clean tt tt tt)
       (λ c e _. named_case s r _ (λ a. Good s table a.run × Clean (said_taken a.answer))
       (λ _. (g, clean tt tt tt))
-      (λ t l. absurd (missed (said c finished arrivals) e t l))
+      (λ t k m. absurd (missed (said c finished arrivals) e t k m))
       (λ t l. (moved (said c finished arrivals) e t l, clean tt tt tt)))
     where
-      missed : (o : Outcome) → r.awaited ≡ Awaited.Choice o.choice → T (not (impossible s r.states o)) → first_such s r.states o true < s.count → ⊥
-      missed o e t l =
-          subst (λ (n : Next). T (lands (live table) n)) (next_miss s r.states o (first_such s r.states o true) s.count l (T_true _ (first_hit (λ k. is_such true (tick_at s r.states o k)) s.count 0 (omega arith)))) (named_lands r g o e t)
+      missed : (o : Outcome) → r.awaited ≡ Some o.choice → T (not (impossible s r.states o)) → (k : ℕ) → Misses s r.states o k → ⊥
+      missed o e t k m =
+          subst (λ (n : Next). T (lands (live table) n)) (next_miss s r.states o k s.count m.within m.missed) (named_lands r g o e t)
 
-      moved : (o : Outcome) → r.awaited ≡ Awaited.Choice o.choice → T (not (impossible s r.states o)) → s.count ≤ first_such s r.states o true → Good s table (run_after s r o)
+      moved : (o : Outcome) → r.awaited ≡ Some o.choice → T (not (impossible s r.states o)) → NoMiss s r.states o → Good s table (run_after s r o)
       moved o e t l = record {
         fits = after_fits s w.set r g.fits o (open_ticks s r g.fits o.choice e) t l;
-        live = subst (λ (n : Next). T (lands (live table) n)) (next_go s r.states o (run_after s r o).states s.count (state_then_lem s w.set r g.fits o) (possible_none s r.states o t) (none_such s r.states o true l)) (named_lands r g o e t);
+        live = subst (λ (n : Next). T (lands (live table) n)) (next_go s r.states o (run_after s r o).states s.count (state_then_lem s w.set r g.fits o) (possible_none s r.states o t) l) (named_lands r g o e t);
         named = λ c z. absurd (after_free s r o c z);
       }
 

@@ -6,19 +6,18 @@ use Prim.Native.Nat.{ℕ, suc, ◌+◌, ◌≤◌, ◌<◌}
 use native.Mathlib.Omega.{arith}
 use lib.Dec.{T, T_not}
 use lib.ListN.{get_or}
+use Rattle.std.specs.Prelude.{Result, None, Ok, Err}
 use Rattle.arena.specs.Tests.{one}
 use Rattle.tasks.specs.declared.sets.Set.{Set}
-use Rattle.tasks.specs.declared.sets.Tested.{Tested}
-use Rattle.tasks.specs.Refusals.{answered, refusing, state_does_not_fit}
+use Rattle.tasks.specs.declared.refusals.Refusal.{Refusal}
+use Rattle.tasks.specs.Refusals.{Said, answered, state_does_not_fit}
 use Rattle.tasks.specs.Sets.{states_of, test_set, Passed}
 use Rattle.tasks.proofs.Valid.{refused_number}
 use Rattle.game.specs.States.{no_state, state_at}
 use Rattle.game.specs.Ticks.{in_hand}
 use Rattle.shield.specs.Entries.{names, Bytes}
-use Rattle.guard.specs.declared.runs.Awaited.TheVariants as Awaited
 use Rattle.guard.specs.declared.runs.Run.{Run}
-use Rattle.guard.specs.declared.asks.Asked.{Asked}
-use Rattle.guard.specs.declared.reports.Reported.{Reported}
+use Rattle.guard.specs.declared.runs.Answered.{Answered}
 use Rattle.guard.specs.Runs.{seven, no_counts, counts_at, start_run, start_tested, start_of, legal_for, fits, said_taken}
 use Rattle.guard.specs.Ask.{choice_for, ask_given, ask_of, said_chosen}
 use Rattle.guard.specs.Calls.{Call, ask, report, said_by, run_by, reached}
@@ -37,7 +36,7 @@ no_21 s q table r w (ask p) =
 no_21 s q table r w (report reading finished arrivals) =
     report_case s r reading finished arrivals (λ a. (said_taken a.answer).number ≡ state_does_not_fit → ⊥)
     (λ f e. absurd (not_refused s q f e)) (λ t. absurd (T_not (fits s r) t (fits_by s r w))) (λ z. omega arith) (λ z. omega arith)
-    (λ c e _. named_case s r _ (λ a. (said_taken a.answer).number ≡ state_does_not_fit → ⊥) (λ _ z. omega arith) (λ _ _ z. omega arith) (λ _ _ z. omega arith))
+    (λ c e _. named_case s r _ (λ a. (said_taken a.answer).number ≡ state_does_not_fit → ⊥) (λ _ z. omega arith) (λ _ _ _ z. omega arith) (λ _ _ z. omega arith))
 
 -- SUMS: after any calls from the start, with any table
 module _ (s : Set) (q : Passed s) (table : List ℕ) (reading : ℕ) (cs : List Call) where
@@ -68,7 +67,7 @@ unfolding ask_given
 asked s table r p c =
     ask_case s table r p (λ a. said_chosen a.answer ≡ answered (c ∷ []) → Guards s table r p c a.run)
     (λ f e z. absurd (omega (arith, (refused_number s f e).0, ap (λ a. a.number) z)))
-    (λ _ _ _ z. absurd (no z)) (λ _ z. absurd (no z)) (λ _ z. absurd (no z)) (λ _ z. absurd (no z)) (λ _ z. absurd (no z)) (λ _ z. absurd (no z))
+    (λ _ _ _ z. absurd (no refl z)) (λ _ z. absurd (no refl z)) (λ _ z. absurd (no refl z)) (λ _ z. absurd (no refl z)) (λ _ z. absurd (no refl z)) (λ _ z. absurd (no refl z))
     (λ d z. let e = own s table r in let k : choice_for s r.states e p ≡ c = ap (λ a. get_or a.values 0 0) z in
     let v = count_le s d.set in let l : p ≤ 7 = omega (arith, d.within) in record {
       legal = subst (λ (c : ℕ). T (legal_for s r.states c)) k (choice_legal s r.states e p l v d.serves);
@@ -78,20 +77,20 @@ asked s table r p c =
       run = ap (λ c. (ask_given r p c).run) k;
     })
   where
-    no : {n place : ℕ} → refusing 1 (record { number = suc n; place = place }) ≡ answered (c ∷ []) → ⊥
-    no z = omega (arith, ap (λ a. a.number) z)
+    no : {a : Said} {n : ℕ} → a.number ≡ suc n → a ≡ answered (c ∷ []) → ⊥
+    no e z = omega (arith, e, ap (λ a. a.number) z)
 
 -- A REFUSED CALL RETURNS THE RUN AS IT WAS GIVEN, for any set, table and run
 module _ (s : Set) (table : List ℕ) (r : Run) where
   pub refused_keeps : (c : Call) → ((said_by s table r c).number ≡ 0 → ⊥) → run_by s table r c ≡ r
   unfolding ask_given
   refused_keeps (ask p) =
-      ask_case s table r p (λ (a : Asked). ((said_chosen a.answer).number ≡ 0 → ⊥) → a.run ≡ r)
+      ask_case s table r p (λ (a : Answered ℕ). ((said_chosen a.answer).number ≡ 0 → ⊥) → a.run ≡ r)
       (λ _ _ _. refl) (λ _ _ _ _. refl) (λ _ _. refl) (λ _ _. refl) (λ _ _. refl) (λ _ _. refl) (λ _ _. refl) (λ _ z. absurd (z refl))
   refused_keeps (report reading finished arrivals) =
-      report_case s r reading finished arrivals (λ (a : Reported). ((said_taken a.answer).number ≡ 0 → ⊥) → a.run ≡ r)
+      report_case s r reading finished arrivals (λ (a : Answered (Unit {0})). ((said_taken a.answer).number ≡ 0 → ⊥) → a.run ≡ r)
       (λ _ _ _. refl) (λ _ _. refl) (λ _. refl) (λ _. refl)
-      (λ c e _. named_case s r _ (λ (a : Reported). ((said_taken a.answer).number ≡ 0 → ⊥) → a.run ≡ r) (λ _ _. refl) (λ _ _ _. refl) (λ _ _ z. absurd (z refl)))
+      (λ c e _. named_case s r _ (λ (a : Answered (Unit {0})). ((said_taken a.answer).number ≡ 0 → ⊥) → a.run ≡ r) (λ _ _. refl) (λ _ _ _ _. refl) (λ _ _ z. absurd (z refl)))
 
 -- A REFUSED START RETURNS A RUN OF ZEROS with no job, and nothing is awaited
 abbrev pub no_run : Run
@@ -101,13 +100,13 @@ no_run = record {
   ticks = 0;
   substitutions = 0;
   reading = 0;
-  awaited = Awaited.Nothing;
+  awaited = None;
 }
 
 pub refused_zeros : (s : Set) (reading : ℕ) → ((said_taken (start_of s reading).answer).number ≡ 0 → ⊥) → (start_of s reading).run ≡ no_run
 unfolding start_run
 refused_zeros s reading = by (test_set s)
   where
-    by : (t : Tested) → ((said_taken (start_tested s reading t).answer).number ≡ 0 → ⊥) → (start_tested s reading t).run ≡ no_run
-    by (Tested.Refused f) z = refl
-    by (Tested.States n) z = absurd (z refl)
+    by : (t : Result ℕ Refusal) → ((said_taken (start_tested s reading t).answer).number ≡ 0 → ⊥) → (start_tested s reading t).run ≡ no_run
+    by (Err f) z = refl
+    by (Ok n) z = absurd (z refl)

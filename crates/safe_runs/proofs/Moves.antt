@@ -9,38 +9,39 @@ use native.Mathlib.Omega.{arith}
 use lib.Dec.{T, leb, ltb, T_not}
 use lib.ListN.{get_or}
 use borrow.Author.Tests.{eq-eqb}
+use Rattle.std.specs.Prelude.{Option, Some, None}
 use Rattle.arena.specs.Tests.{◌∈◌}
 use Rattle.arena.specs.Arena.{miss, go, out}
 use Rattle.arena.specs.Arena as arena
-use Rattle.arena.proofs.Tests.{nor, and_right, T_true, T_false, first_least, first_hit}
+use Rattle.arena.proofs.Tests.{nor, and_right, T_true}
 use Rattle.tasks.specs.declared.sets.Set.{Set}
-use Rattle.tasks.specs.Refusals.{answered, refusing, wrong_reading, impossible_outcome, hard_miss, state_does_not_fit}
+use Rattle.tasks.specs.declared.refusals.Reason.TheVariants.{StateDoesNotFit, WrongReading, ImpossibleOutcome, HardMiss}
+use Rattle.tasks.specs.Refusals.{answered, refusing, hard_miss}
 use Rattle.tasks.specs.Sets.{Passed}
 use Rattle.game.specs.States.{state_at, index_of, task_state_at}
 use Rattle.game.specs.Game.{Seen, arena_of}
 use Rattle.game.proofs.StateLaws.{state_index}
 use Rattle.shield.proofs.EntryLaws.{marks_lt}
-use Rattle.guard.specs.declared.runs.Awaited.{Awaited}
 use Rattle.guard.specs.declared.runs.Run.{Run}
 use Rattle.guard.specs.declared.reports.Outcome.{Outcome}
-use Rattle.guard.specs.declared.reports.Reported.{Reported}
-use Rattle.guard.specs.Runs.{tick_limit, legal_for, awaited_fits, fits, said_taken}
-use Rattle.guard.specs.Report.{next_reading, seen_to, tick_at, is_such, first_such, strays, impossible, run_after, report_refused, report_named, report_awaited, report_tested, report_of}
+use Rattle.guard.specs.declared.runs.Answered.{Answered}
+use Rattle.guard.specs.Runs.{tick_limit, refused, legal_for, awaited_fits, fits, said_taken}
+use Rattle.guard.specs.Report.{next_reading, seen_to, tick_at, is_missed, strays, impossible, run_after, report_named, report_awaited, report_tested, report_of}
 use Rattle.guard.proofs.RunLaws.{Fits, fits_at}
-use Rattle.safe_runs.proofs.Cases.{not_refused, named_case, report_case, none_such, possible_none}
+use Rattle.safe_runs.proofs.Cases.{not_refused, named_case, report_case, possible_none}
 use Rattle.safe_runs.proofs.Fitting.{count_le, state_then_lem}
 use Rattle.safe_runs.proofs.Named.{next_to, named_in, next_go, next_miss}
 use Rattle.safe_runs.proofs.Told.{no_flags, said, finished_in, arrivals_in, told, seen_at, says_named, says_out, told_straight, told_flags, one_said}
 
 -- the awaited choice of a run that fits is legal
-legal_awaited : (s : Set) (r : Run) (a : Awaited) (c : ℕ) → a ≡ Awaited.Choice c → T (awaited_fits s r a) → T (legal_for s r.states c)
-legal_awaited s r Awaited.Nothing c e t = let z : ◌≡◌ {A = ℕ} 0 1 = cc in absurd (omega arith)
-legal_awaited s r (Awaited.Choice d) c e t =
+legal_awaited : (s : Set) (r : Run) (a : Option ℕ) (c : ℕ) → a ≡ Some c → T (awaited_fits s r a) → T (legal_for s r.states c)
+legal_awaited s r None c e t = let z : ◌≡◌ {A = ℕ} 0 1 = cc in absurd (omega arith)
+legal_awaited s r (Some d) c e t =
     let q : d ≡ c = cc in
     subst (λ (c : ℕ). T (legal_for s r.states c)) q (and_right (leb r.substitutions (r.ticks + 1)) _ (and_right (ltb r.ticks tick_limit) _ t))
 
--- a run that fits and awaits a report
-module _ (s : Set) (q : Passed s) (r : Run) (fit : T (fits s r)) (c : ℕ) (e : r.awaited ≡ Awaited.Choice c) where
+-- a run that fits and is_some a report
+module _ (s : Set) (q : Passed s) (r : Run) (fit : T (fits s r)) (c : ℕ) (e : r.awaited ≡ Some c) where
   w : Fits s r
   w = fits_at s r (count_le s q) fit
 
@@ -53,7 +54,7 @@ module _ (s : Set) (q : Passed s) (r : Run) (fit : T (fits s r)) (c : ℕ) (e : 
   Names finished arrivals = T (not (impossible s r.states (said c finished arrivals)))
 
   -- a report that is accepted, or refused with 19, has the next reading and names an outcome
-  abbrev pub Heard : ℕ → Bool → ℕ → Reported → Type 0
+  abbrev pub Heard : ℕ → Bool → ℕ → Answered (Unit {0}) → Type 0
   Heard reading finished arrivals a =
       ((said_taken a.answer).number ≡ 0) ⊎ ((said_taken a.answer).number ≡ hard_miss) → (reading ≡ next_reading r.reading) × Names finished arrivals
 
@@ -63,45 +64,45 @@ module _ (s : Set) (q : Passed s) (r : Run) (fit : T (fits s r)) (c : ℕ) (e : 
       (λ f z. absurd (not_refused s q f z)) (λ t. absurd (T_not (fits s r) t fit))
       (λ z. absurd (⊎_elim (λ n. omega arith) (λ n. omega arith) z)) (λ z. absurd (⊎_elim (λ n. omega arith) (λ n. omega arith) z))
       (λ d g h.
-      let y : Awaited.Choice d ≡ Awaited.Choice c = sym g ∙ e in
+      let y : Some d ≡ Some c = sym g ∙ e in
       let k : d ≡ c = cc in
       let named : T (not (impossible s r.states (said d finished arrivals))) → Names finished arrivals = subst (λ (c : ℕ). T (not (impossible s r.states (said c finished arrivals)))) k in
-      named_case s r _ (Heard reading finished arrivals) (λ _ z. absurd (⊎_elim (λ n. omega arith) (λ n. omega arith) z)) (λ t _ _. (h, named t)) (λ t _ _. (h, named t)))
+      named_case s r _ (Heard reading finished arrivals) (λ _ z. absurd (⊎_elim (λ n. omega arith) (λ n. omega arith) z)) (λ t _ _ _. (h, named t)) (λ t _ _. (h, named t)))
 
   -- with the next reading, the answer is that of what the report says
   right : (finished : Bool) (arrivals : ℕ) → report_of s r (next_reading r.reading) finished arrivals ≡ report_named s r (said c finished arrivals)
   right finished arrivals =
       ap (report_tested s r (next_reading r.reading) finished arrivals) q
-      ∙ ap (λ b. cond b (report_awaited s r (next_reading r.reading) finished arrivals r.awaited) (report_refused r state_does_not_fit 0)) (T_true (fits s r) fit)
+      ∙ ap (λ b. cond b (report_awaited s r (next_reading r.reading) finished arrivals r.awaited) (refused r StateDoesNotFit 0)) (T_true (fits s r) fit)
       ∙ ap (report_awaited s r (next_reading r.reading) finished arrivals) e
-      ∙ ap (λ b. cond b (report_named s r (said c finished arrivals)) (report_refused r wrong_reading 0)) (eq-eqb (next_reading r.reading) (next_reading r.reading) refl)
+      ∙ ap (λ b. cond b (report_named s r (said c finished arrivals)) (refused r WrongReading 0)) (eq-eqb (next_reading r.reading) (next_reading r.reading) refl)
 
   -- one that names no outcome is refused with 18
-  abbrev pub Impossible : Reported → Type 0
-  Impossible a = (said_taken a.answer ≡ refusing 0 (record { number = impossible_outcome; place = 0 })) × (a.run ≡ r)
+  abbrev pub Impossible : Answered (Unit {0}) → Type 0
+  Impossible a = (said_taken a.answer ≡ refusing 0 (record { reason = ImpossibleOutcome; place = 0 })) × (a.run ≡ r)
 
   pub other_refused : (finished : Bool) (arrivals : ℕ) → T (impossible s r.states (said c finished arrivals)) → Impossible (report_of s r (next_reading r.reading) finished arrivals)
   other_refused finished arrivals t =
       let o = said c finished arrivals in
       subst Impossible (sym (right finished arrivals))
-      (named_case s r o Impossible (λ _. (refl, refl)) (λ z _. absurd (T_not (impossible s r.states o) z t)) (λ z _. absurd (T_not (impossible s r.states o) z t)))
+      (named_case s r o Impossible (λ _. (refl, refl)) (λ z _ _. absurd (T_not (impossible s r.states o) z t)) (λ z _. absurd (T_not (impossible s r.states o) z t)))
 
   -- what is answered to one that names an outcome: a move to its state, or 19 at the lowest task that misses
-  pub record Taken-to (o : Outcome) (n : arena.Next) (a : Reported) : Type 0 where
+  pub record Taken-to (o : Outcome) (n : arena.Next) (a : Answered (Unit {0})) : Type 0 where
     pub answer : said_taken a.answer ≡ answered []
     pub run : a.run ≡ run_after s r o
     pub next : n ≡ go (index_of s a.run.states)
 
-  pub record Missed-at (o : Outcome) (n : arena.Next) (a : Reported) : Type 0 where
+  pub record Missed-at (o : Outcome) (n : arena.Next) (a : Answered (Unit {0})) : Type 0 where
     pub task : ℕ
-    pub answer : said_taken a.answer ≡ refusing 0 (record { number = hard_miss; place = suc task })
+    pub answer : said_taken a.answer ≡ refusing 0 (record { reason = HardMiss; place = suc task })
     pub run : a.run ≡ r
     pub within : task < s.count
-    pub misses : is_such true (tick_at s r.states o task) ≡ true
-    pub lowest : (j : ℕ) → j < task → is_such true (tick_at s r.states o j) ≡ false
+    pub misses : is_missed (tick_at s r.states o task) ≡ true
+    pub lowest : (j : ℕ) → j < task → is_missed (tick_at s r.states o j) ≡ false
     pub next : n ≡ miss
 
-  abbrev pub Moved : Outcome → arena.Next → Reported → Type 0
+  abbrev pub Moved : Outcome → arena.Next → Answered (Unit {0}) → Type 0
   Moved o n a = Taken-to o n a ⊎ Missed-at o n a
 
   -- a report that names an outcome of the awaited choice is accepted and moves to it, or is refused with 19 if it is a miss
@@ -112,25 +113,24 @@ module _ (s : Set) (q : Passed s) (r : Run) (fit : T (fits s r)) (c : ℕ) (e : 
   moves finished arrivals t =
       let o = said c finished arrivals in
       let xs = r.states in
-      let n = next_to s xs o s.count in
-      let m = first_such s xs o true in (
+      let n = next_to s xs o s.count in (
         named_in s xs o (index_of s xs) s.count same (possible_none s xs o t),
         subst (Moved o n) (sym (right finished arrivals))
             (named_case s r o (Moved o n)
             (λ z. absurd (T_not (impossible s xs o) t z))
-            (λ _ l. let h = T_true _ (first_hit (λ k. is_such true (tick_at s xs o k)) s.count 0 (omega arith)) in inr (record {
-              task = m;
+            (λ _ k m. inr (record {
+              task = k;
               answer = refl;
               run = refl;
-              within = l;
-              misses = h;
-              lowest = λ j b. T_false _ (first_least (λ k. is_such true (tick_at s xs o k)) s.count 0 j (omega arith) b);
-              next = next_miss s xs o m s.count l h;
+              within = m.within;
+              misses = m.missed;
+              lowest = m.lowest;
+              next = next_miss s xs o k s.count m.within m.missed;
             }))
             (λ _ l. inl (record {
               answer = refl;
               run = refl;
-              next = next_go s xs o (run_after s r o).states s.count (state_then_lem s q r w o) (possible_none s xs o t) (none_such s xs o true l);
+              next = next_go s xs o (run_after s r o).states s.count (state_then_lem s q r w o) (possible_none s xs o t) l;
             }))),
       )
 

@@ -21,7 +21,7 @@ use Rattle.game.specs.Game.{gather, flags, moves_of, beside, outcomes_to}
 use Rattle.game.proofs.ListTests.{those_by, map_in, gather_in}
 use Rattle.game.proofs.Sound.{every_flag}
 use Rattle.guard.specs.declared.reports.Outcome as declared
-use Rattle.guard.specs.Report.{flags_at, seen_to, tick_at, is_such, state_after}
+use Rattle.guard.specs.Report.{flags_at, seen_to, tick_at, is_impossible, is_missed, state_after}
 use Rattle.safe_runs.proofs.TickSums.{tick_can}
 
 -- what the ticks t of the first k tasks come to
@@ -34,7 +34,7 @@ next_same s t u zero h = refl
 next_same s t u (suc k) h = ap₂ (beside (states_to s k) (task_at s k)) (h k (omega arith)) (next_same s t u k (λ j l. h j (omega arith)))
 
 -- one tick more: no miss, to the state that it leads to
-beside_next : (w : ℕ) (τ : Task) (x y : TaskState) (t : Ticked) (n : ℕ) → is_such false t ≡ false → is_such true t ≡ false → y ≡ state_after x t
+beside_next : (w : ℕ) (τ : Task) (x y : TaskState) (t : Ticked) (n : ℕ) → is_impossible t ≡ false → is_missed t ≡ false → y ≡ state_after x t
     → beside w τ t (go n) ≡ go (local_of τ y * w + n)
 beside_next w τ x y Ticked.Impossible n i m e = absurd (subst T i tt)
 beside_next w τ x y Ticked.Missed n i m e = absurd (subst T m tt)
@@ -46,7 +46,7 @@ beside_miss w τ Ticked.Impossible = refl
 beside_miss w τ Ticked.Missed = refl
 beside_miss w τ (Ticked.Next y) = refl
 
-beside_missed : (w : ℕ) (τ : Task) (t : Ticked) (n : Next) → is_such true t ≡ true → beside w τ t n ≡ miss
+beside_missed : (w : ℕ) (τ : Task) (t : Ticked) (n : Next) → is_missed t ≡ true → beside w τ t n ≡ miss
 beside_missed w τ Ticked.Impossible n m = refl
 beside_missed w τ Ticked.Missed n m = refl
 beside_missed w τ (Ticked.Next y) n m = absurd (subst T (sym m) tt)
@@ -56,12 +56,12 @@ module _ (s : Set) (xs : List TaskState) (o : declared.Outcome) where
   abbrev pub next_to : ℕ → Next
   next_to = next_of s (tick_at s xs o)
 
-  -- no tick of the first k tasks is impossible, or a miss
-  abbrev pub None : Bool → ℕ → Type 0
-  None missed k = (j : ℕ) → j < k → is_such missed (tick_at s xs o j) ≡ false
+  -- no tick of the first k tasks passes a test
+  abbrev pub None : (Ticked → Bool) → ℕ → Type 0
+  None test k = (j : ℕ) → j < k → test (tick_at s xs o j) ≡ false
 
   -- THE OUTCOME IS ONE OF THE GAME'S
-  pub named_in : (i : ℕ) (k : ℕ) → ((j : ℕ) → j < k → task_state_at s i j ≡ state_at xs j) → None false k
+  pub named_in : (i : ℕ) (k : ℕ) → ((j : ℕ) → j < k → task_state_at s i j ≡ state_at xs j) → None is_impossible k
       → out (seen_to o k) (next_to k) ∈ outcomes_to s i o.choice k
   unfolding outcomes_to seen_to tick_at
   named_in i zero e h = Memᴰ.head refl
@@ -77,7 +77,7 @@ module _ (s : Set) (xs : List TaskState) (o : declared.Outcome) where
       (map_in _ (outcomes_to s i o.choice k) _ (named_in i k (λ j l. e j (omega arith)) (λ j l. h j (omega arith)))))
 
   -- WITH NO MISS it is the index of the states that the ticks lead to
-  pub next_go : (ys : List TaskState) (k : ℕ) → ((j : ℕ) → j < k → state_at ys j ≡ state_after (state_at xs j) (tick_at s xs o j)) → None false k → None true k
+  pub next_go : (ys : List TaskState) (k : ℕ) → ((j : ℕ) → j < k → state_at ys j ≡ state_after (state_at xs j) (tick_at s xs o j)) → None is_impossible k → None is_missed k
       → next_to k ≡ go (index_to s ys k)
   unfolding index_to
   next_go ys zero e i m = refl
@@ -86,12 +86,12 @@ module _ (s : Set) (xs : List TaskState) (o : declared.Outcome) where
       ∙ beside_next (states_to s k) (task_at s k) (state_at xs k) (state_at ys k) (tick_at s xs o k) (index_to s ys k) (i k (omega arith)) (m k (omega arith)) (e k (omega arith))
 
   -- WITH A MISS of any task it is a miss
-  pub next_miss : (j k : ℕ) → j < k → is_such true (tick_at s xs o j) ≡ true → next_to k ≡ miss
+  pub next_miss : (j k : ℕ) → j < k → is_missed (tick_at s xs o j) ≡ true → next_to k ≡ miss
   next_miss j zero h m = let z : ⊥ = omega arith in absurd z
   next_miss j (suc k) h m = ⊎_elim here (λ l. above (next_miss j k l m)) (eq-or-lt_of_le (le_of_suc-le-suc h))
     where
       here : j ≡ k → beside (states_to s k) (task_at s k) (tick_at s xs o k) (next_to k) ≡ miss
-      here e = beside_missed (states_to s k) (task_at s k) (tick_at s xs o k) (next_to k) (subst (λ (n : ℕ). is_such true (tick_at s xs o n) ≡ true) e m)
+      here e = beside_missed (states_to s k) (task_at s k) (tick_at s xs o k) (next_to k) (subst (λ (n : ℕ). is_missed (tick_at s xs o n) ≡ true) e m)
 
       above : next_to k ≡ miss → beside (states_to s k) (task_at s k) (tick_at s xs o k) (next_to k) ≡ miss
       above q = ap (beside (states_to s k) (task_at s k) (tick_at s xs o k)) q ∙ beside_miss (states_to s k) (task_at s k) (tick_at s xs o k)

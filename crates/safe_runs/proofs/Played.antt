@@ -1,10 +1,11 @@
 -- A guarded run moves by the game: it is a play from the start, of choices that the table's entries allow. Assumes nothing.
 use mathlib.Core.Path.{◌≡◌, sym, subst}
-use mathlib.Core.Bool.{true, not}
+use mathlib.Core.Bool.{not}
 use mathlib.Core.List.{List, [], ◌∷◌}
 use Prim.Native.Nat.{ℕ, ◌+◌, ◌≤◌}
 use native.Mathlib.Omega.{arith}
 use lib.Dec.{T}
+use Rattle.std.specs.Prelude.{Some}
 use Rattle.arena.specs.Tests.{◌∈◌}
 use Rattle.arena.specs.Arena.{Next, go, out}
 use Rattle.tasks.specs.declared.sets.Set.{Set}
@@ -13,15 +14,14 @@ use Rattle.game.specs.States.{index_of}
 use Rattle.game.specs.Game.{Seen, outcomes_to, arena_of}
 use Rattle.game.proofs.StateLaws.{state_index}
 use Rattle.shield.specs.Entries.{names, entry_at, Bytes}
-use Rattle.guard.specs.declared.runs.Awaited.TheVariants as Awaited
 use Rattle.guard.specs.declared.runs.Run.{Run}
 use Rattle.guard.specs.declared.reports.Outcome.{Outcome}
 use Rattle.guard.specs.Runs.{start_run}
 use Rattle.guard.specs.Ask.{choice_for, ask_given, ask_of}
-use Rattle.guard.specs.Report.{seen_to, first_such, impossible, run_after}
+use Rattle.guard.specs.Report.{seen_to, impossible, run_after}
 use Rattle.guard.specs.Calls.{Call, ask, report, run_by, run_from, reached}
 use Rattle.guard.proofs.RunLaws.{Fits, index_fits, open_ticks}
-use Rattle.safe_runs.proofs.Cases.{own, ask_case, named_case, report_case, none_such, possible_none}
+use Rattle.safe_runs.proofs.Cases.{own, ask_case, NoMiss, named_case, report_case, possible_none}
 use Rattle.safe_runs.proofs.Fitting.{count_le, start_fits, start_run_lem, given_fits_lem, state_then_lem, after_fits}
 use Rattle.safe_runs.proofs.Guarded.{choice_legal, choice_named}
 use Rattle.safe_runs.proofs.Named.{named_in, next_go}
@@ -39,7 +39,7 @@ module _ (s : Set) (q : Passed s) (table : List ℕ) (bytes : Bytes (states_of s
   record Along (r : Run) : Type 0 where
     fits : Fits s r
     played : Played s table r.ticks (index_of s r.states)
-    named : (c : ℕ) → r.awaited ≡ Awaited.Choice c → T (names (own s table r) c)
+    named : (c : ℕ) → r.awaited ≡ Some c → T (names (own s table r) c)
 
   along_ask : (r : Run) → Along r → (p : ℕ) → Along (ask_of s table r p).run
   unfolding ask_given
@@ -52,13 +52,13 @@ module _ (s : Set) (q : Passed s) (table : List ℕ) (bytes : Bytes (states_of s
       })
 
   -- a report that is accepted is a tick more
-  along_moved : (r : Run) → Along r → (o : Outcome) → r.awaited ≡ Awaited.Choice o.choice → T (not (impossible s r.states o)) → s.count ≤ first_such s r.states o true → Along (run_after s r o)
+  along_moved : (r : Run) → Along r → (o : Outcome) → r.awaited ≡ Some o.choice → T (not (impossible s r.states o)) → NoMiss s r.states o → Along (run_after s r o)
   unfolding arena_of run_after
   along_moved r g o e t l =
       let n = s.count in
       let i = index_of s r.states in
       let none = possible_none s r.states o t in
-      let to = next_go s r.states o (run_after s r o).states n (state_then_lem s q r g.fits o) none (none_such s r.states o true l) in
+      let to = next_go s r.states o (run_after s r o).states n (state_then_lem s q r g.fits o) none l in
       record {
         fits = after_fits s q r g.fits o (open_ticks s r g.fits o.choice e) t l;
         played = ticked o.choice _ (seen_to o n) g.played (g.named o.choice e)
@@ -71,7 +71,7 @@ module _ (s : Set) (q : Passed s) (table : List ℕ) (bytes : Bytes (states_of s
   along_call r g (ask p) = along_ask r g p
   along_call r g (report reading finished arrivals) =
       report_case s r reading finished arrivals (λ a. Along a.run) (λ _ _. g) (λ _. g) g g
-      (λ c e _. named_case s r _ (λ a. Along a.run) (λ _. g) (λ _ _. g) (along_moved r g (said c finished arrivals) e))
+      (λ c e _. named_case s r _ (λ a. Along a.run) (λ _. g) (λ _ _ _. g) (along_moved r g (said c finished arrivals) e))
 
   along_calls : (r : Run) → Along r → (cs : List Call) → Along (run_from s table r cs)
   along_calls r g [] = g

@@ -5,6 +5,7 @@ use mathlib.Core.List.{List, [], ◌∷◌}
 use Prim.Native.Nat.{ℕ, ◌≤◌, ◌<◌}
 use native.Mathlib.Omega.{arith}
 use lib.Dec.{T, eqb→eq, T_not}
+use Rattle.std.specs.Prelude.{Some, None, is_some}
 use Rattle.arena.specs.Tests.{◌∈◌}
 use Rattle.arena.specs.Arena.{miss, go, Outcome}
 use Rattle.tasks.specs.declared.sets.Set.{Set}
@@ -15,10 +16,9 @@ use Rattle.game.specs.Game.{Seen, arena_of}
 use Rattle.shield.specs.Entries.{Bytes}
 use Rattle.shield.proofs.Tested.{Tried, passes_tried, said_passes}
 use Rattle.promises.proofs.Shield.{TestPasses}
-use Rattle.guard.specs.declared.runs.Awaited.TheVariants as Awaited
 use Rattle.guard.specs.declared.runs.Run.{Run}
-use Rattle.guard.specs.declared.reports.Reported.{Reported}
-use Rattle.guard.specs.Runs.{tick_limit, start_run, start_of, fits, awaits, said_taken}
+use Rattle.guard.specs.declared.runs.Answered.{Answered}
+use Rattle.guard.specs.Runs.{tick_limit, start_run, start_of, fits, said_taken}
 use Rattle.guard.specs.Ask.{serves, choice_for, ask_given, ask_of, said_chosen}
 use Rattle.guard.specs.Report.{next_reading, report_of}
 use Rattle.guard.specs.Calls.{Call, said_by, reached, Clean}
@@ -30,7 +30,7 @@ use Rattle.safe_runs.proofs.Moves.{moves, one_report}
 use Rattle.safe_runs.proofs.Good.{Good, fresh_index, good_serves, good_outcomes, good_call, good_reached}
 
 -- a report is accepted, and takes the run to the outcome o
-pub record Accepted (s : Set) (o : Outcome Seen) (a : Reported) : Type 0 where
+pub record Accepted (s : Set) (o : Outcome Seen) (a : Answered (Unit {0})) : Type 0 where
   pub answer : said_taken a.answer ≡ answered []
   pub next : o.next ≡ go (index_of s a.run.states)
 
@@ -39,12 +39,12 @@ pub record SafeRun (s : Set) (table : List ℕ) (r : Run) : Type 0 where
   -- no call on it is refused with 16, 19 or 21
   pub clean : (c : Call) → Clean (said_by s table r c)
   -- no outcome of the choice that it awaits is a miss
-  pub no_miss : (c : ℕ) → r.awaited ≡ Awaited.Choice c → (o : Outcome Seen) → o ∈ (arena_of s).outs (index_of s r.states) c → o.next ≡ miss → ⊥
+  pub no_miss : (c : ℕ) → r.awaited ≡ Some c → (o : Outcome Seen) → o ∈ (arena_of s).outs (index_of s r.states) c → o.next ≡ miss → ⊥
   -- and the report of each, with the next reading, is accepted
-  pub reports : (c : ℕ) → r.awaited ≡ Awaited.Choice c → (o : Outcome Seen) → o ∈ (arena_of s).outs (index_of s r.states) c
+  pub reports : (c : ℕ) → r.awaited ≡ Some c → (o : Outcome Seen) → o ∈ (arena_of s).outs (index_of s r.states) c
       → Accepted s o (report_of s r (next_reading r.reading) (finished_in o.seen c) (arrivals_in o.seen s.count))
   -- up to the tick limit every ask with nothing awaited and a proposal of at most n is answered
-  pub answers : (p : ℕ) → p ≤ s.count → r.awaited ≡ Awaited.Nothing → r.ticks < tick_limit
+  pub answers : (p : ℕ) → p ≤ s.count → r.awaited ≡ None → r.ticks < tick_limit
       → (c : ℕ) × (said_chosen (ask_of s table r p).answer ≡ answered (c ∷ []))
 
 -- so after any calls from the start
@@ -58,7 +58,7 @@ start_index s q reading = ap (λ (r : Run). index_of s r.states) (start_run_lem 
 
 -- a run on states where a table that passed is used
 module _ (s : Set) (table : List ℕ) (w : Tried s table) (b : Bytes (states_of s) table) (r : Run) (g : Good s table r) where
-  good_reports : (c : ℕ) → r.awaited ≡ Awaited.Choice c → (o : Outcome Seen) → o ∈ (arena_of s).outs (index_of s r.states) c
+  good_reports : (c : ℕ) → r.awaited ≡ Some c → (o : Outcome Seen) → o ∈ (arena_of s).outs (index_of s r.states) c
       → Accepted s o (report_of s r (next_reading r.reading) (finished_in o.seen c) (arrivals_in o.seen s.count))
   good_reports c e o m =
       let f = fits_by s r g.fits in
@@ -69,14 +69,14 @@ module _ (s : Set) (table : List ℕ) (w : Tried s table) (b : Bytes (states_of 
       (λ t. absurd (good_outcomes s table w b r g c e o m (sym same ∙ t.next)))
       (moves s w.set r f c e (finished_in o.seen c) (arrivals_in o.seen s.count) n.0).1
 
-  good_answers : (p : ℕ) → p ≤ s.count → r.awaited ≡ Awaited.Nothing → r.ticks < tick_limit → (c : ℕ) × (said_chosen (ask_of s table r p).answer ≡ answered (c ∷ []))
+  good_answers : (p : ℕ) → p ≤ s.count → r.awaited ≡ None → r.ticks < tick_limit → (c : ℕ) × (said_chosen (ask_of s table r p).answer ≡ answered (c ∷ []))
   unfolding ask_given
   good_answers p l e m =
       ask_case s table r p (λ a. (c : ℕ) × (said_chosen a.answer ≡ answered (c ∷ [])))
       (λ f z. absurd (not_refused s w.set f z))
       (λ n z h. let k : states_of s ≡ n = cc w.set in absurd (omega (arith, w.long)))
       (λ z. absurd (T_not (fits s r) z (fits_by s r g.fits)))
-      (λ z. absurd (subst (λ a. T (awaits a)) e z))
+      (λ z. absurd (subst (λ a. T (is_some a)) e z))
       (λ z. absurd (omega (arith, eqb→eq r.ticks tick_limit z)))
       (λ z. absurd (omega arith))
       (λ z. absurd (T_not (serves s r.states (own s table r)) z (good_serves s table w b r g)))

@@ -18,7 +18,7 @@ use Rattle.game.specs.declared.ticks.Flags.{Flags}
 use Rattle.game.specs.Ticks.{in_hand, can_finish, can, job_after, late, arrived, tick_of}
 use Rattle.game.proofs.Sound.{ranged, tick_range, possible}
 use Rattle.guard.specs.declared.runs.Counts.{Counts}
-use Rattle.guard.specs.Report.{is_such, counts_after, state_after}
+use Rattle.guard.specs.Report.{is_impossible, is_missed, counts_after, state_after}
 use Rattle.guard.proofs.RunLaws.{Fit}
 
 module _ (τ : Task) (run : Bool) (x : TaskState) (f : Flags) where
@@ -31,21 +31,21 @@ module _ (τ : Task) (run : Bool) (x : TaskState) (f : Flags) where
   by_can b e = ap (λ b. cond b (cond (late τ (x.age + 1) (job_after run f.finishes x.job)) Missed (Next then)) Impossible) e
 
   -- a tick is possible exactly if the generator can decide so
-  pub tick_can : is_such false (tick_of τ run x f) ≡ false → T (can τ run x f)
-  tick_can e = ⊎_elim (λ t. t) (λ t. let q = sym (ap (is_such false) (by_can false (T_false _ t))) ∙ e in absurd (subst T q tt)) (decide (can τ run x f))
+  pub tick_can : is_impossible (tick_of τ run x f) ≡ false → T (can τ run x f)
+  tick_can e = ⊎_elim (λ t. t) (λ t. let q = sym (ap is_impossible (by_can false (T_false _ t))) ∙ e in absurd (subst T q tt)) (decide (can τ run x f))
 
-  pub tick_possible : T (can τ run x f) → is_such false (tick_of τ run x f) ≡ false
-  tick_possible t = ap (is_such false) (by_can true (T_true _ t)) ∙ judged (late τ (x.age + 1) (job_after run f.finishes x.job))
+  pub tick_possible : T (can τ run x f) → is_impossible (tick_of τ run x f) ≡ false
+  tick_possible t = ap is_impossible (by_can true (T_true _ t)) ∙ judged (late τ (x.age + 1) (job_after run f.finishes x.job))
     where
-      judged : (b : Bool) → is_such false (cond b Missed (Next then)) ≡ false
+      judged : (b : Bool) → is_impossible (cond b Missed (Next then)) ≡ false
       judged true = refl
       judged false = refl
 
   -- one that is no miss leads to that state
-  pub tick_next : is_such false (tick_of τ run x f) ≡ false → is_such true (tick_of τ run x f) ≡ false → tick_of τ run x f ≡ Next then
-  tick_next e m = let q = by_can true (T_true _ (tick_can e)) in q ∙ go (late τ (x.age + 1) (job_after run f.finishes x.job)) (sym (ap (is_such true) q) ∙ m)
+  pub tick_next : is_impossible (tick_of τ run x f) ≡ false → is_missed (tick_of τ run x f) ≡ false → tick_of τ run x f ≡ Next then
+  tick_next e m = let q = by_can true (T_true _ (tick_can e)) in q ∙ go (late τ (x.age + 1) (job_after run f.finishes x.job)) (sym (ap is_missed q) ∙ m)
     where
-      go : (b : Bool) → is_such true (cond b Missed (Next then)) ≡ false → cond b Missed (Next then) ≡ Next then
+      go : (b : Bool) → is_missed (cond b Missed (Next then)) ≡ false → cond b Missed (Next then) ≡ Next then
       go true m = absurd (subst T m tt)
       go false m = refl
 
@@ -65,7 +65,7 @@ sum_kept τ true false false age (InHand g) a p r t e = omega arith
 
 -- a place that fits, a tick later
 pub fit_tick : (τ : Task) → ValidTask τ → (run : Bool) (x : TaskState) (f : Flags) (ticks : ℕ) (n : Counts) → Fit τ ticks x n
-    → is_such false (tick_of τ run x f) ≡ false → is_such true (tick_of τ run x f) ≡ false
+    → is_impossible (tick_of τ run x f) ≡ false → is_missed (tick_of τ run x f) ≡ false
     → Fit τ (ticks + 1) (state_after x (tick_of τ run x f)) (counts_after x n f)
 fit_tick τ v run x f ticks n w i m =
     let q = tick_next τ run x f i m in

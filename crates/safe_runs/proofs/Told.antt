@@ -11,11 +11,11 @@ use native.Mathlib.Omega.{arith}
 use lib.Dec.{T, eqb, ltb, eqb→eq, ltb→lt}
 use lib.ListN.{length, get_or, length-append, get_or-append}
 use lib.Seq.{ext_get_or, get_or_at}
-use borrow.Author.Tests.{le-ltb, eq-eqb, ne_eqb}
-use Rattle.arena.specs.Tests.{◌∈◌}
+use borrow.Author.Tests.{eq-eqb, ne_eqb}
+use Rattle.arena.specs.Tests.{◌∈◌, any_below}
 use Rattle.arena.specs.Arena.{out}
 use Rattle.arena.specs.Arena as arena
-use Rattle.arena.proofs.Tests.{nor, and_left, T_true, T_false, not_not, decide, none_below}
+use Rattle.arena.proofs.Tests.{nor, and_left, T_true, T_false, not_not, decide}
 use Rattle.tasks.specs.declared.sets.Set.{Set}
 use Rattle.tasks.specs.Sets.{task_at, states_to}
 use Rattle.game.specs.declared.states.TaskState.{TaskState}
@@ -30,7 +30,7 @@ use Rattle.shield.specs.Entries.{names, marks}
 use Rattle.shield.proofs.EntryLaws.{marks_lt, names_marks, marks_names, marks_cong}
 use Rattle.guard.specs.declared.reports.Outcome.{Outcome}
 use Rattle.guard.specs.Runs.{legal_for}
-use Rattle.guard.specs.Report.{flags_at, seen_to, tick_at, is_such, strays, impossible}
+use Rattle.guard.specs.Report.{flags_at, seen_to, tick_at, is_impossible, strays, impossible}
 use Rattle.safe_runs.proofs.Named.{next_of, next_same, next_to}
 use Rattle.safe_runs.proofs.TickSums.{tick_possible}
 
@@ -101,6 +101,11 @@ seen_at o (suc n) j h =
 neither : (a b : Bool) → a ≡ false → b ≡ false → T (not (a || b))
 neither a b x y = subst (λ a. T (not (a || b))) (sym x) (subst (λ b. T (not b)) (sym y) tt)
 
+-- a test that fails at every number below n passes at none
+any_none : (n : ℕ) (f : ℕ → Bool) → ((j : ℕ) → j < n → f j ≡ false) → any_below n f ≡ false
+any_none zero f h = refl
+any_none (suc n) f h = ap₂ ◌||◌ (h n (omega arith)) (any_none n f (λ j l. h j (omega arith)))
+
 -- A REPORT THAT SAYS WHAT IS SEEN IN AN OUTCOME
 module _ (s : Set) (xs : List TaskState) (i : ℕ) (same : (j : ℕ) → j < s.count → task_state_at s i j ≡ state_at xs j)
     (o : Outcome) (a : arena.Outcome Seen) (d : Told s i o.choice s.count a)
@@ -108,9 +113,9 @@ module _ (s : Set) (xs : List TaskState) (i : ℕ) (same : (j : ℕ) → j < s.c
   -- names an outcome, if it is not stray
   pub says_named : T (not (strays s o)) → T (not (impossible s xs o))
   unfolding impossible tick_at
-  says_named t = neither (strays s o) _ (T_false (strays s o) t) (le-ltb _ s.count (none_below _ s.count possible))
+  says_named t = neither (strays s o) _ (T_false (strays s o) t) (any_none s.count _ possible)
     where
-      possible : (j : ℕ) → j < s.count → is_such false (tick_of (task_at s j) (eqb o.choice (suc j)) (state_at xs j) (flags_at o j)) ≡ false
+      possible : (j : ℕ) → j < s.count → is_impossible (tick_of (task_at s j) (eqb o.choice (suc j)) (state_at xs j) (flags_at o j)) ≡ false
       possible j h =
           tick_possible _ _ _ _
           (subst (λ (x : TaskState). T (can (task_at s j) (eqb o.choice (suc j)) x (flags_at o j))) (same j h)

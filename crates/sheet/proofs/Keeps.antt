@@ -6,9 +6,9 @@ use lib.Dec.{leb}
 use lib.ListN.{length, drop, get_or}
 use lib.Seq.{drop_at}
 use Rattle.arena.proofs.Tests.{by_cond}
+use Rattle.std.specs.Prelude.{Result, Ok, Err}
+use Rattle.tasks.specs.declared.refusals.Refusal.{Refusal}
 use Rattle.tasks.specs.declared.sets.Set.{Set}
-use Rattle.tasks.specs.declared.sets.Tested.{Tested}
-use Rattle.tasks.specs.declared.sets.Tested.TheVariants.{States, Refused as FailedWith}
 use Rattle.tasks.specs.Refusals.{answered}
 use Rattle.tasks.specs.Sets.{test_set}
 use Rattle.sheet_form.specs.Sets.{text_of}
@@ -23,9 +23,9 @@ module _ (s : Set) (b : List ℕ) where
       Kept : Written → Type 0
       Kept w = ((said_wrote w.answer).number ≡ 0 → ⊥) → w.bytes ≡ b
 
-      by : (v : Tested) → Kept (tested_write s b v)
-      by (FailedWith f) = λ z. refl
-      by (States k) = by_cond Kept (leb (length (text_of s)) (length b)) _ _ (λ _ z. absurd (z refl)) (λ _ z. refl)
+      by : (v : Result ℕ Refusal) → Kept (tested_write s b v)
+      by (Err f) = λ z. refl
+      by (Ok k) = by_cond Kept (leb (length (text_of s)) (length b)) _ _ (λ _ z. absurd (z refl)) (λ _ z. refl)
 
   -- ANSWERED n, no byte beyond n is changed
   pub beyond_stays : (n : ℕ) → said_wrote (write_of s b).answer ≡ answered (n ∷ []) → drop n (write_of s b).bytes ≡ drop n b
@@ -35,9 +35,9 @@ module _ (s : Set) (b : List ℕ) where
       Stays : Written → Type 0
       Stays w = said_wrote w.answer ≡ answered (n ∷ []) → drop n w.bytes ≡ drop n b
 
-      by : (v : Tested) → Stays (tested_write s b v)
-      by (FailedWith f) = λ e. refl
-      by (States k) =
+      by : (v : Result ℕ Refusal) → Stays (tested_write s b v)
+      by (Err f) = λ e. refl
+      by (Ok k) =
           by_cond Stays (leb (length (text_of s)) (length b)) _ _
           (λ _ e. let k : length (text_of s) ≡ n = ap (λ a. get_or a.values 0 0) e in drop_at (text_of s) (drop (length (text_of s)) b) n k ∙ ap (λ n. drop n b) k)
           (λ _ e. refl)

@@ -6,7 +6,7 @@ ghost use Rattle.sheet_reader.specs.Reading.{read_text, reach_text};
 ghost use Rattle.sheet_writer.specs.Writing.{leaving, write_of};
 
 use sheet_reader::SheetRead;
-use sheet_writer::Wrote;
+use tasks::refusals::Refusal;
 use tasks::sets::Set;
 
 // A reader holds the text and its place.
@@ -62,7 +62,7 @@ pub fn read(text: &[u8]) -> SheetRead
 }
 
 // The one sheet that a set has, into a lent buffer: its length, or the refusal.
-pub fn write(set: Set, buf: &mut [u8]) -> Wrote
+pub fn write(set: Set, buf: &mut [u8]) -> Result<u32, Refusal>
     ensures { leaving result buf.new ≡ write_of set buf.old }
 {
     sheet_writer::write(set, buf)

@@ -2,86 +2,72 @@
 // reader's place and the set beside the answer are printed and, where the set was taken, what is written of it.
 #![tactic(auto)]
 
-mod say;
+ghost use Rattle.std.specs.Prelude.{◌≡◌, ◌<◌, ◌==◌, length, position};
 
-ghost use Rattle.std.specs.Prelude.{◌≡◌, ◌≢◌, ℕ, ◌≤◌, ◌<◌, length, slice_index};
-
-use cases::lines::{put, put_number};
-use say::{say_answer, say_set, say_wrote};
-use sheet_reader::ReadAnswer;
+use cases::lines::{put, put_answer, put_number, put_taken};
 use tasks::sets::Set;
 
 // What writing a set answers, and the buffer after it.
 fn write(rt: &impl Print, set: Set, buf: &mut [u8]) {
     put(rt, b"write");
-    say_wrote(rt, sheet::write(set, buf));
+    put_answer(rt, b" length ", sheet::write(set, buf));
     put(rt, b"\n");
     put(rt, buf);
     put(rt, b"\n");
 }
 
-// A set that was taken, written into a buffer with room for more; nothing of a refused one.
-fn write_back(rt: &impl Print, a: ReadAnswer, set: Set) {
-    match a {
-        ReadAnswer::Taken => {
-            let mut page = [b'.'; 200];
-            write(rt, set, &mut page);
-        }
-        ReadAnswer::Refused(_) => {}
-    }
+// The first character of the name, the count, and the first task's record.
+fn put_set(rt: &impl Print, set: Set) {
+    let t = set.tasks[0];
+    put_number(rt, b" set ", set.name[0]);
+    put_number(rt, b" ", set.count);
+    put_number(rt, b" ", t.kind);
+    put_number(rt, b" ", t.deadline);
+    put_number(rt, b" ", t.runs);
+    put_number(rt, b" ", t.gaps);
 }
 
+// A set that is taken is written back, into a buffer with room for more; nothing of a refused one is.
 fn read(rt: &impl Print, text: &[u8]) {
     let r = sheet::read(text);
-    let a = r.answer;
-    let set = r.set;
-    say_answer(rt, a);
-    put_number(rt, b" at ", sheet::place_after(text, 0) as u64);
-    say_set(rt, set);
+    put_taken(rt, b" taken", r.answer);
+    put_number(rt, b" at ", sheet::place_after(text, 0));
+    put_set(rt, r.set);
     put(rt, b"\n");
-    write_back(rt, a, set);
-}
-
-// The first place from i on that has the byte, or the end.
-fn find(cases: &[u8], i: usize, b: u8) -> usize
-    requires { i ≤ length cases.now }
-    ensures from { i ≤ result }
-    ensures within { result ≤ length cases.now }
-    ensures before { (k : ℕ) → i ≤ k → k < result → slice_index cases.now k ≢ b }
-    ensures found { result < length cases.now → slice_index cases.now result ≡ b }
-{
-    for k in i..cases.len() {
-        if cases[k] == b {
-            return k;
-        }
+    if r.answer.is_ok() {
+        write(rt, r.set, &mut [b'.'; 200]);
     }
-    cases.len()
 }
 
-// The case that begins at a place, and the place of the next.
-fn read_one(rt: &impl Print, cases: &[u8], i: usize) -> usize
-    requires { i < length cases.now }
-    ensures { (i < result) × (result ≤ length cases.now) }
+// The first place that has the byte.
+fn find(text: &[u8], b: u8) -> Option<usize>
+    ensures { result ≡ position (λ c. c == b) text.now }
 {
-    let bar = find(cases, i, b'|');
-    put(rt, &cases[i..bar]);
+    text.iter().position(|c| *c == b)
+}
+
+// The first case, and those behind it.
+fn read_one<'a>(rt: &impl Print, cases: &'a [u8]) -> &'a [u8]
+    requires { 0 < length cases.now }
+    ensures { length result.now < length cases.now }
+{
+    let bar = find(cases, b'|');
+    put(rt, &cases[..bar.unwrap_or(cases.len())]);
     put(rt, b":");
-    if bar == cases.len() {
-        return bar;
-    }
-    let start = bar + 1;
-    let end = find(cases, start, b'~');
-    read(rt, &cases[start..end]);
-    if end == cases.len() {
-        return end;
-    }
-    end + 1
+    let Some(bar) = bar else {
+        return &[];
+    };
+    let text = &cases[bar + 1..];
+    let end = find(text, b'~').unwrap_or(text.len());
+    read(rt, &text[..end]);
+    &text[(end + 1).min(text.len())..]
 }
 
+// A `while`, and no `split` at `~`: a label may hold one.
 fn read_all(rt: &impl Print, cases: &[u8]) {
-    let mut i = 0;
-    while i < cases.len() {
-        i = read_one(rt, cases, i);
+    let mut left = cases;
+    while !left.is_empty() {
+        left = read_one(rt, left);
     }
 }
 
@@ -104,9 +90,7 @@ fn write_refused(rt: &impl Print, set: Set) {
     s.name[5] = b'a';
     write(rt, s, &mut buf);
     s.name[5] = 0;
-    let mut t = s.tasks[6];
-    t.gaps = 1;
-    s.tasks[6] = t;
+    s.tasks[6].gaps = 1;
     write(rt, s, &mut buf);
     s.count = 8;
     write(rt, s, &mut buf);
@@ -116,8 +100,7 @@ fn main(rt: HostRuntime) {
     let mut cases = [0u8; 8192];
     let n = reading::fill(&mut rt.stdin(), &mut cases);
     read_all(&rt, &cases[..n]);
-    let r = sheet::read(b"set PAIR\nhard 2 1 2\nhard 2 1 2\n");
-    let set = r.set;
+    let set = sheet::read(b"set PAIR\nhard 2 1 2\nhard 2 1 2\n").set;
     write_lengths(&rt, set);
     write_refused(&rt, set);
 }

@@ -1,6 +1,5 @@
 -- The numbers of a list, put on one after the other. Assumes nothing.
-use Rattle.std.proofs.Common.{◌≡◌, ℕ, zero, suc, ◌+◌, ◌-◌, ◌*◌, ◌%◌, ◌^◌, ◌<◌, ◌≤◌, Bool, true, false, cond, ◌&&◌, ltb, List, [], ◌∷◌, ◌++◌, sym, refl, ap, ◌∙◌, add-zero, add_assoc, mod-eq_of_lt, one-mul, pow-suc, arith, pow_pos, pow_mono, ltb-true, le-ltb, lt-ltb, le-leb}
-use lib.Pow.{pow-lt}
+use Rattle.std.proofs.Common.{◌≡◌, ℕ, zero, suc, ◌+◌, ◌-◌, ◌^◌, ◌<◌, ◌≤◌, Bool, true, false, cond, ◌&&◌, ltb, List, [], ◌∷◌, ◌++◌, sym, refl, ap, ◌∙◌, add-zero, add_assoc, mod-eq_of_lt, pow-suc, arith, pow_pos, pow_mono, ltb-true, le-ltb, lt-ltb, le-leb}
 use Rattle.tasks.specs.Lists.{last_or}
 use Rattle.sheet_form.specs.Form.{Values, Each, Small, ValuesOk}
 use Rattle.sheet_form.specs.Sets.{numbers, rising_from, rising, bits, list_of}
@@ -75,10 +74,3 @@ kept_list l h =
     choose : (c : Bool) → (cond c (record { last = last_or 0 (numbers l); bits = 0 + bits (numbers l) }) broken).bits ≡ cond c (bits (numbers l)) 0
     choose true = omega arith
     choose false = refl
-
--- one bit, where the code shifts it into its place
-pub bit_value : (v : ℕ) → 1 ≤ v → v ≤ 16 → 1 * 2 ^ (v - 1) % 65536 ≡ 2 ^ (v - 1)
-bit_value v h k = ap (λ (z : ℕ). z % 65536) (one-mul _) ∙ mod-eq_of_lt (pow-lt {j = 16} (omega arith))
-
-pub some : (n : ℕ) → (n ≡ 0 → ⊥) → 0 < n
-some n h = omega arith

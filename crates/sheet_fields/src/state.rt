@@ -3,6 +3,7 @@ ghost use Rattle.std.specs.Prelude.{◌≡◌};
 ghost use Rattle.sheet_fields.specs.State.{blank_of, moved};
 
 // Where the next byte stands: in a word, in the name, at a line's start, in a field; or a byte before it was a fault.
+// Numbers, and no enum: `fields::in_field` promises an answer at every one.
 pub const SET_WORD: u8 = 0;
 
 pub const HARD_WORD: u8 = 1;
@@ -23,7 +24,7 @@ pub const FAULT: u8 = 8;
 
 // What is kept of the bytes read, beside the name and the tasks. `at`: how many bytes of the word or the name, or the number begun, 0
 // where none is. `last` and `bits`: the list begun. `count`: the tasks that have ended.
-#[derive(Clone, Copy)]
+#[derive(Clone, Copy, Debug, PartialEq, Eq)]
 pub struct State {
     pub mode: u8,
     pub at: u8,
@@ -40,7 +41,7 @@ pub fn blank(mode: u8) -> State
     ensures { result ≡ blank_of mode }
 {
     State {
-        mode: mode,
+        mode,
         at: 0,
         last: 0,
         bits: 0,

@@ -8,10 +8,11 @@ use lib.Dec.{T, eqb, ltb}
 use lib.ListN.{length, get_or, drop, replicate, length-append, length-map}
 use lib.Seq.{drop_at, get_or_at, get_or-append-add}
 use borrow.Author.Tests.{lt-ltb, le-ltb, le-leb, ne_eqb, eq-eqb}
-use Rattle.tasks.specs.declared.sets.Tested.{Tested}
-use Rattle.tasks.specs.declared.sets.Tested.TheVariants.{Refused}
+use Rattle.std.specs.Prelude.{Some, None, Result, Err}
+use Rattle.tasks.specs.declared.refusals.Reason.{Reason}
+use Rattle.tasks.specs.declared.refusals.Reason.TheVariants.{BadRecord}
+use Rattle.tasks.specs.declared.refusals.Refusal.{Refusal}
 use Rattle.tasks.specs.Lists.{head_or, last_or, shortest_of, longest_of, length_of}
-use Rattle.tasks.specs.Refusals.{bad_record}
 use Rattle.tasks.specs.Sets.{characters, zeros, good_name, no_task, blank, unfit, fault_of, task_at, fault_at, refuse_or, lowest_fault, test_states, test_set}
 use Rattle.sheet_form.specs.Form.{Values, Line, Sheet, Each, ValuesOk, LineOk, NameOk, Formed}
 use Rattle.sheet_form.specs.Sets.{numbers, rising, list_of, kind_of, task_of, padded, set_of, line_fault, lowest_line}
@@ -120,11 +121,11 @@ module _ (s : Sheet) (h : Formed s) where
       = ap (λ ls. get_or (map task_of ls ++ z) (length xs) no_task) e ∙ ap (λ ts. get_or (ts ++ z) (length xs) no_task) (map-append task_of xs (l ∷ ys))
       ∙ ap (λ ts. get_or ts (length xs) no_task) (append_assoc (map task_of xs) (task_of l ∷ map task_of ys) z)
       ∙ get_or_at (map task_of xs) (task_of l) (map task_of ys ++ z) no_task (length xs) (length-map xs task_of) in
-      ap₂ (λ b τ. cond b (fault_of τ) (cond (blank τ) 0 bad_record)) (lt-ltb (length xs) (length s.lines) inside) r
+      ap₂ (λ b τ. cond b (fault_of τ) (cond (blank τ) None (Some BadRecord))) (lt-ltb (length xs) (length s.lines) inside) r
       ∙ line_fault_lem l (Each_seam LineOk xs l ys (subst (Each LineOk) e h.lines))
 
   -- a record beyond the lines is blank
-  blank_at : (i : ℕ) → length s.lines ≤ i → fault_at (set_of s) i ≡ 0
+  blank_at : (i : ℕ) → length s.lines ≤ i → fault_at (set_of s) i ≡ None
   unfolding fault_at padded blank
   blank_at i g =
       let ts = map task_of s.lines in
@@ -132,9 +133,9 @@ module _ (s : Sheet) (h : Formed s) where
       let e : i ≡ length ts + (i - length ts) = omega (arith, length-map s.lines task_of) in
       let r : task_at (set_of s) i ≡ no_task
       = ap (λ n. get_or (ts ++ z) n no_task) e ∙ get_or-append-add ts z (i - length ts) no_task ∙ get_d_same (7 - length ts) (i - length ts) no_task in
-      ap₂ (λ b τ. cond b (fault_of τ) (cond (blank τ) 0 bad_record)) (le-ltb i (length s.lines) g) r
+      ap₂ (λ b τ. cond b (fault_of τ) (cond (blank τ) None (Some BadRecord))) (le-ltb i (length s.lines) g) r
 
-  module _ (t : Tested) where
+  module _ (t : Result ℕ Refusal) where
     none_beyond : (k i : ℕ) → length s.lines ≤ i → lowest_fault (set_of s) k i t ≡ t
     unfolding lowest_fault
     none_beyond zero i g = refl
@@ -157,19 +158,16 @@ module _ (s : Sheet) (h : Formed s) where
       (lowest_from (test_states (set_of s)) [] s.lines 7 0 refl refl refl)
 
 -- the line l is the lowest at fault: those before it are without fault
-pub lowest_at : (xs : List Line) (l : Line) (ys : List Line) (i : ℕ) (t : Tested) → Each (λ x. line_fault x ≡ 0) xs → 0 < line_fault l
-    → lowest_line i (xs ++ (l ∷ ys)) t ≡ Refused (record { number = line_fault l; place = i + length xs + 1 })
-lowest_at [] l ys i t h p = some (line_fault l) p ∙ ap (λ n. Refused (record { number = line_fault l; place = n })) (omega arith)
-  where
-    some : (n : ℕ) → 0 < n → refuse_or n (suc i) (lowest_line (suc i) ys t) ≡ Refused (record { number = n; place = suc i })
-    some zero h = let z : ⊥ = omega arith in absurd z
-    some (suc n) h = refl
-lowest_at (x ∷ xs) l ys i t h p =
+pub lowest_at : (xs : List Line) (l : Line) (ys : List Line) (i : ℕ) (t : Result ℕ Refusal) (r : Reason) → Each (λ x. line_fault x ≡ None) xs → line_fault l ≡ Some r
+    → lowest_line i (xs ++ (l ∷ ys)) t ≡ Err (record { reason = r; place = i + length xs + 1 })
+lowest_at [] l ys i t r h p =
+    ap (λ o. refuse_or o (suc i) (lowest_line (suc i) ys t)) p ∙ ap (λ n. Err (record { reason = r; place = n })) (omega arith)
+lowest_at (x ∷ xs) l ys i t r h p =
     let e : suc i + length xs + 1 ≡ i + suc (length xs) + 1 = omega arith in
-    ap (λ n. refuse_or n (suc i) (lowest_line (suc i) (xs ++ (l ∷ ys)) t)) h.0 ∙ lowest_at xs l ys (suc i) t h.1 p
-    ∙ ap (λ n. Refused (record { number = line_fault l; place = n })) e
+    ap (λ o. refuse_or o (suc i) (lowest_line (suc i) (xs ++ (l ∷ ys)) t)) h.0 ∙ lowest_at xs l ys (suc i) t r h.1 p
+    ∙ ap (λ n. Err (record { reason = r; place = n })) e
 
 -- a line with a list that does not rise is at fault, with 3
-pub not_rising : (l : Line) → (rising l.runs && rising l.gaps) ≡ false → line_fault l ≡ bad_record
+pub not_rising : (l : Line) → (rising l.runs && rising l.gaps) ≡ false → line_fault l ≡ Some BadRecord
 unfolding line_fault
 not_rising l e = rw e refl

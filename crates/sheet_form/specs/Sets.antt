@@ -1,10 +1,11 @@
 -- The set that a sheet says, and the sheet that a set has.
-use Rattle.std.specs.Prelude.{Bool, true, ◌&&◌, cond, List, [], ◌∷◌, ◌++◌, map, ℕ, suc, ◌+◌, ◌-◌, ◌^◌, ltb, eqb, length, take, replicate}
+use Rattle.std.specs.Prelude.{Bool, true, ◌&&◌, cond, List, [], ◌∷◌, ◌++◌, map, ℕ, suc, ◌+◌, ◌-◌, ◌^◌, ltb, eqb, length, take, replicate, Option, Some, None, Result}
+use Rattle.tasks.specs.declared.refusals.Reason.{Reason}
+use Rattle.tasks.specs.declared.refusals.Reason.TheVariants.{BadRecord, RunTimeAboveDeadline, GapBelowDeadline}
+use Rattle.tasks.specs.declared.refusals.Refusal.{Refusal}
 use Rattle.tasks.specs.declared.sets.Task.{Task}
 use Rattle.tasks.specs.declared.sets.Set.{Set}
-use Rattle.tasks.specs.declared.sets.Tested.{Tested}
 use Rattle.tasks.specs.Lists.{values_of, head_or}
-use Rattle.tasks.specs.Refusals.{bad_record, run_time_above_deadline, gap_below_deadline}
 use Rattle.tasks.specs.Sets.{characters, no_task, refuse_or}
 use Rattle.sheet_form.specs.Form.{Values, Line, Sheet, sheet_text}
 
@@ -44,16 +45,16 @@ padded n d xs = xs ++ replicate (n - length xs) d
 abbrev pub set_of : Sheet → Set
 set_of s = record { name = padded 16 0 s.name; count = length s.lines; tasks = padded 7 no_task (map task_of s.lines) }
 
--- what a line is refused with, 0 for nothing: a list that does not rise, then cmax above D, then the shortest gap below D
-unfoldable pub line_fault : Line → ℕ
+-- why a line is refused, if it is: a list that does not rise, then cmax above D, then the shortest gap below D
+unfoldable pub line_fault : Line → Option Reason
 line_fault l =
     cond (rising l.runs && rising l.gaps)
-    (cond (ltb l.deadline l.runs.final) run_time_above_deadline
-    (cond (ltb (head_or 0 (numbers l.gaps)) l.deadline) gap_below_deadline 0))
-    bad_record
+    (cond (ltb l.deadline l.runs.final) (Some RunTimeAboveDeadline)
+    (cond (ltb (head_or 0 (numbers l.gaps)) l.deadline) (Some GapBelowDeadline) None))
+    (Some BadRecord)
 
 -- the lowest task at fault of the lines from that of task i + 1 on, and t where there is none
-abbrev pub lowest_line : ℕ → List Line → Tested → Tested
+abbrev pub lowest_line : ℕ → List Line → Result ℕ Refusal → Result ℕ Refusal
 lowest_line i [] t = t
 lowest_line i (l ∷ ls) t = refuse_or (line_fault l) (suc i) (lowest_line (suc i) ls t)
 

@@ -1,12 +1,14 @@
 -- Reading, by the form of the text and by what one pass over it finds. Assumes nothing.
 use mathlib.Core.Path.{◌≡◌, refl, sym, ap, ◌∙◌}
-use mathlib.Core.Bool.{true, false, cond}
+use mathlib.Core.Bool.{cond}
 use mathlib.Core.List.{List}
 use Prim.Native.Nat.{ℕ, ◌≤◌, ◌<◌}
 use native.Mathlib.Nat.{le_refl}
 use lib.ListN.{length}
 use borrow.Author.Tests.{lt-ltb, le-ltb}
-use Rattle.tasks.specs.declared.sets.Tested.{Tested}
+use Rattle.std.specs.Prelude.{Option, Some, None, Ok, Err}
+use Rattle.tasks.specs.declared.refusals.Refusal.{Refusal}
+use Rattle.tasks.specs.declared.sets.Set.{Set}
 use Rattle.tasks.specs.Sets.{test_set}
 use Rattle.sheet_form.specs.Form.{longest, Form, fits, stops}
 use Rattle.sheet_form.proofs.Places.{form}
@@ -14,11 +16,15 @@ use Rattle.sheet_scan.specs.declared.Scanned.{Scanned}
 use Rattle.sheet_scan.specs.Scan.{scan_of, scan_text}
 use Rattle.sheet_scan.proofs.Scans.{scan_by}
 use Rattle.sheet_reader.specs.declared.SheetRead.{SheetRead}
-use Rattle.sheet_reader.specs.Reading.{long_read, fault_read, tested_read, form_read, read_text, form_reach, reach_text}
+use Rattle.sheet_reader.specs.Reading.{refused_with, long_read, fault_read, tested_read, form_read, read_text, form_reach, reach_text}
 
 -- what a pass finds, answered
+abbrev set_read : ℕ → Option Set → SheetRead
+set_read p (Some k) = tested_read k (test_set k)
+set_read p None = fault_read p
+
 abbrev scan_read : Scanned → SheetRead
-scan_read s = cond s.whole (tested_read s.set (test_set s.set)) (fault_read s.reach)
+scan_read s = set_read s.reach s.set
 
 module _ (t : List ℕ) where
   -- whatever shows the form of a text, what is read and how far is what the pass finds
@@ -62,15 +68,14 @@ module _ (t : List ℕ) where
     pub reach_short : (f : Form t) → reach_text t ≡ form_reach t f
     reach_short f = reach_scan ∙ sym (form_reach_lem f)
 
-    module _ (s : Scanned) (e : s ≡ scan_text t) where
-      by_pass : read_text t ≡ scan_read s
-      by_pass = read_scan ∙ ap scan_read (sym e)
+    pub read_faulty : (scan_text t).set ≡ None → read_text t ≡ fault_read (scan_text t).reach
+    read_faulty e = read_scan ∙ ap (set_read (scan_text t).reach) e
 
-      pub read_faulty : s.whole ≡ false → read_text t ≡ fault_read s.reach
-      read_faulty w = by_pass ∙ ap (λ b. cond b (tested_read s.set (test_set s.set)) (fault_read s.reach)) w
+    pub read_passed : (k : Set) (n : ℕ) → (scan_text t).set ≡ Some k → test_set k ≡ Ok n → read_text t ≡ record { answer = Ok tt; set = k }
+    read_passed k n e q = read_scan ∙ ap (set_read (scan_text t).reach) e ∙ ap (tested_read k) q
 
-      pub read_tested : s.whole ≡ true → (r : Tested) → test_set s.set ≡ r → read_text t ≡ tested_read s.set r
-      read_tested w r q = by_pass ∙ ap (λ b. cond b (tested_read s.set (test_set s.set)) (fault_read s.reach)) w ∙ ap (tested_read s.set) q
+    pub read_refused : (k : Set) (f : Refusal) → (scan_text t).set ≡ Some k → test_set k ≡ Err f → read_text t ≡ refused_with f
+    read_refused k f e q = read_scan ∙ ap (set_read (scan_text t).reach) e ∙ ap (tested_read k) q
 
   pub scan_within : (scan_text t).reach ≤ length t
   unfolding scan_text

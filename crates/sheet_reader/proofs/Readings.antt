@@ -8,11 +8,12 @@ use native.Mathlib.Omega.{arith}
 use lib.Dec.{ltb, nltb→le}
 use lib.ListN.{length, replicate}
 use borrow.Author.Tests.{lt-ltb, le-ltb}
+use Rattle.std.specs.Prelude.{Some, None, Result, Ok, Err}
+use Rattle.tasks.specs.declared.refusals.Reason.{Reason}
+use Rattle.tasks.specs.declared.refusals.Reason.TheVariants.{SheetTooLong, SheetForm, BadRecord, TooManyStates}
 use Rattle.tasks.specs.declared.refusals.Refusal.{Refusal}
 use Rattle.tasks.specs.declared.sets.Set.{Set}
-use Rattle.tasks.specs.declared.sets.Tested.{Tested}
-use Rattle.tasks.specs.declared.sets.Tested.TheVariants.{States, Refused as FailedWith}
-use Rattle.tasks.specs.Refusals.{Said, answered, refusing, sheet_too_long, sheet_form, bad_record, too_many_states, sheet_numbers}
+use Rattle.tasks.specs.Refusals.{Said, answered, refusing, number_of, sheet_too_long, sheet_form, sheet_numbers}
 use Rattle.tasks.specs.Sets.{no_set, refuse_or, states_of, test_states, test_set}
 use Rattle.sheet_form.specs.Form.{Line, Each, longest, Member, FaultAt, Form, fits, stops}
 use Rattle.sheet_form.specs.Sets.{rising, set_of, line_fault, lowest_line}
@@ -23,7 +24,6 @@ use Rattle.tasks.proofs.Valid.{refused_number, refused_listed}
 use Rattle.sheet_form.proofs.Faults.{lines_tested, lowest_at, not_rising}
 use Rattle.sheet_form.proofs.Places.{form}
 use Rattle.sheet_reader.specs.declared.SheetRead.{SheetRead}
-use Rattle.sheet_reader.specs.declared.ReadAnswer.TheVariants.{Taken}
 use Rattle.sheet_reader.proofs.Passes.{read_long, read_short, reach_short}
 use Rattle.sheet_reader.specs.Reading.{refused_with, tested_read, form_read, read_text, reach_text, set_values, said_read}
 
@@ -33,12 +33,12 @@ said t = said_read (read_text t)
 
 -- REFUSAL 1: the text is too long, whatever it holds
 
-pub long_read_lem : (t : List ℕ) → longest < length t → said t ≡ refusing 45 (record { number = sheet_too_long; place = 0 })
+pub long_read_lem : (t : List ℕ) → longest < length t → said t ≡ refusing 45 (record { reason = SheetTooLong; place = 0 })
 long_read_lem t h = ap said_read (read_long t h)
 
 -- REFUSAL 2: reading answers it, at the place p, exactly if the text is not too long and its form is at fault at p
 
-pub fault_read_lem : (t : List ℕ) (p : ℕ) → length t ≤ longest → FaultAt t p → said t ≡ refusing 45 (record { number = sheet_form; place = p })
+pub fault_read_lem : (t : List ℕ) (p : ℕ) → length t ≤ longest → FaultAt t p → said t ≡ refusing 45 (record { reason = SheetForm; place = p })
 fault_read_lem t p h f = ap said_read (read_short t h (stops p f))
 
 module _ (t : List ℕ) where
@@ -46,9 +46,9 @@ module _ (t : List ℕ) where
   Faulty r = (said_read r).number ≡ sheet_form → (length t ≤ longest) × FaultAt t (said_read r).place
 
   -- a sheet's set is refused with 3 to 6, and never with 2
-  tested_fault : (s : Set) (r : Tested) → test_set s ≡ r → Faulty (tested_read s r)
-  tested_fault s (States n) e g = let z : ⊥ = omega arith in absurd z
-  tested_fault s (FailedWith f) e g = let z : ⊥ = omega (arith, (refused_number s f e).0) in absurd z
+  tested_fault : (s : Set) (r : Result ℕ Refusal) → test_set s ≡ r → Faulty (tested_read s r)
+  tested_fault s (Ok n) e g = let z : ⊥ = omega arith in absurd z
+  tested_fault s (Err f) e g = let z : ⊥ = omega (arith, (refused_number s f e).0) in absurd z
 
   formed_fault : length t ≤ longest → (f : Form t) → Faulty (form_read t f)
   formed_fault h (stops p x) e = (h, x)
@@ -61,7 +61,7 @@ module _ (t : List ℕ) where
 
 -- REFUSALS 3 TO 6: the lowest task at fault, then the number of states; else the set is taken
 
-faultless : (ls : List Line) (i : ℕ) (r : Tested) → Each (λ x. line_fault x ≡ 0) ls → lowest_line i ls r ≡ r
+faultless : (ls : List Line) (i : ℕ) (r : Result ℕ Refusal) → Each (λ x. line_fault x ≡ None) ls → lowest_line i ls r ≡ r
 faultless [] i r g = refl
 faultless (l ∷ ls) i r g = ap (λ n. refuse_or n (suc i) (lowest_line (suc i) ls r)) g.0 ∙ faultless ls (suc i) r g.1
 
@@ -73,25 +73,23 @@ module _ (t : List ℕ) (m : Member t) (h : length t ≤ longest) where
   read_lines = read_short t h (fits m) ∙ ap (tested_read its_set) (lines_tested m.sheet m.formed)
 
   -- the line l is the lowest at fault: the lines before it are without fault
-  module _ (xs : List Line) (l : Line) (ys : List Line) (e : m.sheet.lines ≡ xs ++ (l ∷ ys)) (g : Each (λ x. line_fault x ≡ 0) xs) where
-    pub read_lowest : 0 < line_fault l → said t ≡ refusing 45 (record { number = line_fault l; place = length xs + 1 })
-    read_lowest p =
+  module _ (xs : List Line) (l : Line) (ys : List Line) (e : m.sheet.lines ≡ xs ++ (l ∷ ys)) (g : Each (λ x. line_fault x ≡ None) xs) where
+    pub read_lowest : (r : Reason) → line_fault l ≡ Some r → said t ≡ refusing 45 (record { reason = r; place = length xs + 1 })
+    read_lowest r p =
         let z : 0 + length xs + 1 ≡ length xs + 1 = omega arith in
-        ap said_read (read_lines ∙ ap (λ ls. tested_read its_set (lowest_line 0 ls (test_states its_set))) e ∙ ap (tested_read its_set) (lowest_at xs l ys 0 (test_states its_set) g p))
-        ∙ ap (λ n. refusing 45 (record { number = line_fault l; place = n })) z
+        ap said_read (read_lines ∙ ap (λ ls. tested_read its_set (lowest_line 0 ls (test_states its_set))) e ∙ ap (tested_read its_set) (lowest_at xs l ys 0 (test_states its_set) r g p))
+        ∙ ap (λ n. refusing 45 (record { reason = r; place = n })) z
 
     -- a list of it does not rise
-    pub read_not_rising : (rising l.runs && rising l.gaps) ≡ false → said t ≡ refusing 45 (record { number = bad_record; place = length xs + 1 })
-    read_not_rising r =
-        let n : line_fault l ≡ bad_record = not_rising l r in
-        read_lowest (omega arith) ∙ ap (λ k. refusing 45 (record { number = k; place = length xs + 1 })) n
+    pub read_not_rising : (rising l.runs && rising l.gaps) ≡ false → said t ≡ refusing 45 (record { reason = BadRecord; place = length xs + 1 })
+    read_not_rising n = read_lowest BadRecord (not_rising l n)
 
   -- no line is at fault
-  module _ (g : Each (λ x. line_fault x ≡ 0) m.sheet.lines) where
+  module _ (g : Each (λ x. line_fault x ≡ None) m.sheet.lines) where
     by_states : read_text t ≡ tested_read its_set (test_states its_set)
     by_states = read_lines ∙ ap (tested_read its_set) (faultless m.sheet.lines 0 (test_states its_set) g)
 
-    pub read_too_many : 60000 < states_of its_set → said t ≡ refusing 45 (record { number = too_many_states; place = 0 })
+    pub read_too_many : 60000 < states_of its_set → said t ≡ refusing 45 (record { reason = TooManyStates; place = 0 })
     unfolding test_states
     read_too_many n = ap said_read by_states ∙ rw (lt-ltb 60000 (states_of its_set) n) refl
 
@@ -102,21 +100,21 @@ module _ (t : List ℕ) (m : Member t) (h : length t ≤ longest) where
 -- EVERY REFUSAL has one of the numbers of reading a sheet, 1 to 6, and a set of zeros beside it
 
 data Fair : SheetRead → Type 0 where
-  taken : (s : Set) → Fair (record { answer = Taken; set = s })
-  refused : (f : Refusal) → f.number ∈ sheet_numbers → Fair (refused_with f)
+  taken : (s : Set) → Fair (record { answer = Ok tt; set = s })
+  refused : (f : Refusal) → number_of f.reason ∈ sheet_numbers → Fair (refused_with f)
 
-fair_tested : (s : Set) (r : Tested) → test_set s ≡ r → Fair (tested_read s r)
-fair_tested s (States n) e = taken s
-fair_tested s (FailedWith f) e = refused f (Memᴰ.append_right (sheet_too_long ∷ sheet_form ∷ []) (refused_listed s f e))
+fair_tested : (s : Set) (r : Result ℕ Refusal) → test_set s ≡ r → Fair (tested_read s r)
+fair_tested s (Ok n) e = taken s
+fair_tested s (Err f) e = refused f (Memᴰ.append_right (sheet_too_long ∷ sheet_form ∷ []) (refused_listed s f e))
 
 fair_formed : (t : List ℕ) (f : Form t) → Fair (form_read t f)
-fair_formed t (stops p e) = refused (record { number = sheet_form; place = p }) (listed_in sheet_form sheet_numbers tt)
+fair_formed t (stops p e) = refused (record { reason = SheetForm; place = p }) (listed_in sheet_form sheet_numbers tt)
 fair_formed t (fits m) = fair_tested (set_of m.sheet) (test_set (set_of m.sheet)) refl
 
 fair : (t : List ℕ) → Fair (read_text t)
 unfolding read_text
 fair t =
-    by_cond Fair (ltb longest (length t)) _ _ (λ b. refused (record { number = sheet_too_long; place = 0 }) (listed_in sheet_too_long sheet_numbers tt)) (λ b. fair_formed t (form t))
+    by_cond Fair (ltb longest (length t)) _ _ (λ b. refused (record { reason = SheetTooLong; place = 0 }) (listed_in sheet_too_long sheet_numbers tt)) (λ b. fair_formed t (form t))
 
 pub refused_said : (t : List ℕ) → 0 < (said t).number → ((said t).number ∈ sheet_numbers) × ((read_text t).set ≡ no_set) × ((said t).values ≡ replicate 45 0)
 refused_said t = go (fair t)
@@ -126,12 +124,12 @@ refused_said t = go (fair t)
     go (refused f m) h = (m, refl, refl)
 
 -- so an answer without a number is a set that was taken
-pub read_taken : (t : List ℕ) (q : SheetRead) → q ≡ read_text t → (said_read q).number ≡ 0 → q.answer ≡ Taken
-read_taken t q e = subst⁻¹ (λ r. (said_read r).number ≡ 0 → r.answer ≡ Taken) e (go (fair t))
+pub read_taken : (t : List ℕ) (q : SheetRead) → q ≡ read_text t → (said_read q).number ≡ 0 → q.answer ≡ Ok tt
+read_taken t q e = subst⁻¹ (λ r. (said_read r).number ≡ 0 → r.answer ≡ Ok tt) e (go (fair t))
   where
-    go : {r : SheetRead} → Fair r → (said_read r).number ≡ 0 → r.answer ≡ Taken
+    go : {r : SheetRead} → Fair r → (said_read r).number ≡ 0 → r.answer ≡ Ok tt
     go (taken s) g = refl
-    go (refused f m) g = absurd (omega (arith, (between 1 6 sheet_numbers tt f.number m).0))
+    go (refused f m) g = absurd (omega (arith, (between 1 6 sheet_numbers tt (number_of f.reason) m).0))
 
 -- WHERE A READER THEN STANDS: at the end of a sheet, at the place of a fault of form, and where it was in a text that is too long (`reach_long`)
 

@@ -1,35 +1,32 @@
 -- What reading a sheet answers: refusals 1 and 2, then those of the set's own test; or the set.
-use Rattle.std.specs.Prelude.{cond, List, [], ◌∷◌, ◌++◌, ℕ, ltb, length}
+use Rattle.std.specs.Prelude.{cond, List, [], ◌∷◌, ◌++◌, ℕ, ltb, length, Result, Ok, Err}
+use Rattle.tasks.specs.declared.refusals.Reason.TheVariants.{SheetTooLong, SheetForm}
 use Rattle.tasks.specs.declared.refusals.Refusal.{Refusal}
 use Rattle.tasks.specs.declared.sets.Task.{Task}
 use Rattle.tasks.specs.declared.sets.Set.{Set}
-use Rattle.tasks.specs.declared.sets.Tested.{Tested}
-use Rattle.tasks.specs.declared.sets.Tested.TheVariants.{States, Refused as FailedWith}
-use Rattle.tasks.specs.Refusals.{Said, answered, sheet_too_long, sheet_form}
+use Rattle.tasks.specs.Refusals.{Said, answered, number_of}
 use Rattle.tasks.specs.Sets.{no_set, test_set}
 use Rattle.sheet_form.specs.Form.{longest, Form, fits, stops}
 use Rattle.sheet_form.specs.Sets.{set_of}
 use Rattle.sheet_form.proofs.Places.{form}
-use Rattle.sheet_reader.specs.declared.ReadAnswer.{ReadAnswer}
 use Rattle.sheet_reader.specs.declared.SheetRead.{SheetRead}
-use Rattle.sheet_reader.specs.declared.ReadAnswer.TheVariants.{Taken, Refused}
 
 -- a refusal returns zeros beside it
 abbrev pub refused_with : Refusal → SheetRead
-refused_with f = record { answer = Refused f; set = no_set }
+refused_with f = record { answer = Err f; set = no_set }
 
 -- the set of a sheet whose form is right, by the test of that set
-abbrev pub tested_read : Set → Tested → SheetRead
-tested_read s (States n) = record { answer = Taken; set = s }
-tested_read s (FailedWith f) = refused_with f
+abbrev pub tested_read : Set → Result ℕ Refusal → SheetRead
+tested_read s (Ok n) = record { answer = Ok tt; set = s }
+tested_read s (Err f) = refused_with f
 
 -- a fault of form is placed at the length of the longest beginning that some sheet has
 abbrev pub fault_read : ℕ → SheetRead
-fault_read p = refused_with (record { number = sheet_form; place = p })
+fault_read p = refused_with (record { reason = SheetForm; place = p })
 
 -- a text over 1,024 bytes, whatever it holds
 abbrev pub long_read : SheetRead
-long_read = refused_with (record { number = sheet_too_long; place = 0 })
+long_read = refused_with (record { reason = SheetTooLong; place = 0 })
 
 -- by the form of the text: its fault, or the test of the set that it says
 abbrev pub form_read : (t : List ℕ) → Form t → SheetRead
@@ -57,9 +54,9 @@ abbrev pub set_values : Set → List ℕ
 set_values s = s.name ++ (s.count ∷ task_values s.tasks)
 
 -- the answer in the paper's terms
-abbrev pub said_answer : ReadAnswer → List ℕ → Said
-said_answer Taken vs = answered vs
-said_answer (Refused f) vs = record { number = f.number; place = f.place; values = vs }
+abbrev pub said_answer : Result Unit Refusal → List ℕ → Said
+said_answer (Ok _) vs = answered vs
+said_answer (Err f) vs = record { number = number_of f.reason; place = f.place; values = vs }
 
 abbrev pub said_read : SheetRead → Said
 said_read r = said_answer r.answer (set_values r.set)

@@ -1,4 +1,4 @@
-// The reader of sheets, over a text and a place of it.
+// The reader of sheets, over a text and a place of it; the struct of the two is `sheet::Reader`, over these functions.
 #![tactic(auto)]
 
 ghost use Rattle.std.specs.Prelude.{◌≡◌, ◌+◌, length, drop};
@@ -6,21 +6,14 @@ ghost use Rattle.sheet_reader.specs.Reading.{refused_with, read_text, reach_text
 
 use sheet_form::LONGEST;
 use sheet_scan::scan;
-use tasks::refusals::Refusal;
-use tasks::sets::{Set, Tested};
-use tasks::{refusals, sets};
+use tasks::refusals::{Reason, Refusal};
+use tasks::sets;
+use tasks::sets::Set;
 
-// What reading a sheet answers, beside the set.
-#[derive(Clone, Copy)]
-pub enum ReadAnswer {
-    Taken,
-    Refused(Refusal),
-}
-
-// The set that was read; zeros beside a refusal.
+// What reading a sheet answers, and the set that was read. It is no Result of a set: zeros stand beside a refusal, as is promised.
 #[derive(Clone, Copy)]
 pub struct SheetRead {
-    pub answer: ReadAnswer,
+    pub answer: Result<(), Refusal>,
     pub set: Set,
 }
 
@@ -28,10 +21,9 @@ pub struct SheetRead {
 fn refused(f: Refusal) -> SheetRead
     ensures { result ≡ refused_with f }
 {
-    let set = sets::no_set();
     SheetRead {
-        answer: ReadAnswer::Refused(f),
-        set: set,
+        answer: Err(f),
+        set: sets::no_set(),
     }
 }
 
@@ -39,46 +31,43 @@ fn refused(f: Refusal) -> SheetRead
 fn left(text: &[u8], at: usize) -> usize
     ensures { result ≡ length (drop at text.now) }
 {
-    if at < text.len() {
-        return text.len() - at;
-    }
-    0
+    text.len().saturating_sub(at)
 }
 
 // The sheet that stands from a place of a text on: 1, 2, then 3 to 6 by the test of its set.
+#[tactic(auto, using(crate::proofs::Passes::read_long, crate::proofs::Passes::read_faulty, crate::proofs::Passes::read_passed, crate::proofs::Passes::read_refused, crate::proofs::Passes::scan_within))]
 pub fn read_at(text: &[u8], at: usize) -> SheetRead
     ensures { result ≡ read_text (drop at text.now) }
 {
     if LONGEST < left(text, at) {
         return refused(Refusal {
-            number: refusals::SHEET_TOO_LONG,
+            reason: Reason::SheetTooLong,
             place: 0,
         });
     }
     let s = scan(text, at);
-    if !s.whole {
+    let Some(set) = s.set else {
         return refused(Refusal {
-            number: refusals::SHEET_FORM,
+            reason: Reason::SheetForm,
             place: s.reach as u32,
         });
-    }
-    let set = s.set;
+    };
     match sets::test(set) {
-        Tested::States(_) => SheetRead {
-            answer: ReadAnswer::Taken,
-            set: set,
+        Ok(_) => SheetRead {
+            answer: Ok(()),
+            set,
         },
-        Tested::Refused(f) => refused(f),
+        Err(f) => refused(f),
     }
 }
 
 // The place after reading there: past what the form reached, nothing of a text that is too long.
+#[tactic(auto, using(crate::proofs::Passes::reach_long, crate::proofs::Passes::reach_scan, crate::proofs::Passes::scan_within))]
 pub fn place_after(text: &[u8], at: usize) -> usize
     ensures { result ≡ at + reach_text (drop at text.now) }
 {
     if LONGEST < left(text, at) {
         return at;
     }
-    let s = scan(text, at);
-    at + s.reach
+    at + scan(text, at).reach
 }

@@ -1,14 +1,16 @@
 -- The pass over a text, byte by byte. Assumes nothing.
 use mathlib.Core.Path.{◌≡◌, refl, sym, ap, ◌∙◌, subst}
 use mathlib.Core.Logic.{⊎_elim}
-use mathlib.Core.Bool.{true, false, not}
+use mathlib.Core.Bool.{Bool, true, false, not}
 use mathlib.Core.List.{List, [], ◌∷◌, ◌++◌}
-use Prim.Native.Nat.{ℕ, suc, ◌+◌, ◌-◌, ◌≤◌, ◌<◌}
+use Prim.Native.Nat.{ℕ, suc, ◌+◌, ◌≤◌, ◌<◌}
 use native.Mathlib.Numerals.{add-one}
 use native.Mathlib.Omega.{arith}
 use lib.Dec.{T}
-use lib.ListN.{length, get_or, take, drop, length-drop}
-use lib.Seq.{take-suc, take_all, get_or-drop}
+use lib.ListN.{length, get_or, take}
+use lib.Seq.{take-suc, take_all}
+use Rattle.std.proofs.Common.{Some}
+use Rattle.std.specs.Bool.{then_some}
 use Rattle.sheet_form.specs.Form.{Member, FaultAt, Form, fits, stops}
 use Rattle.sheet_form.specs.Machine.{word, name, line, field, fault, opening, kind, deadline, runs, gaps, step, run, start}
 use Rattle.sheet_form.specs.Machine as machine
@@ -26,7 +28,7 @@ use Rattle.sheet_scan.proofs.Pack.{sheet_in, pack, set_after, Packs, same, fault
 
 -- whatever shows a text's form, it is the one that counts
 one_form : (t : List ℕ) (f g : Form t) → scan_of t f ≡ scan_of t g
-one_form t (fits m) (fits n) = ap (λ s. record { whole = true; reach = length t; set = set_of s }) (one_sheet t m n)
+one_form t (fits m) (fits n) = ap (λ s. record { reach = length t; set = Some (set_of s) }) (one_sheet t m n)
 one_form t (fits m) (stops p e) = absurd (fault_no_member t p e m)
 one_form t (stops p e) (fits m) = absurd (fault_no_member t p e m)
 one_form t (stops p e) (stops q f) = ap stopped_at (one_fault t p q e f)
@@ -43,7 +45,7 @@ pub record SoFar (t : List ℕ) (s : State) (k : Set) (i : ℕ) : Type 0 where
   pub keeps : s ≡ pack (run start (take i t))
   pub says : k ≡ set_of (sheet_in (run start (take i t)))
 
-at_first : (t : List ℕ) → SoFar t (blank_of set_word) no_set 0
+pub at_first : (t : List ℕ) → SoFar t (blank_of set_word) no_set 0
 unfolding padded
 at_first t = record { within = omega arith; ok = start_ok; reads = refl; keeps = refl; says = refl }
 
@@ -60,7 +62,7 @@ module _ (t : List ℕ) (s : State) (k : Set) (i : ℕ) (f : SoFar t s k i) (h :
   packs : Packs now (get_or t i 0) n next
   packs = subst (λ x. Packs now (get_or t i 0) x next) (sym (e ∙ ap (λ x. step_of x (get_or t i 0)) f.keeps)) (same now (get_or t i 0) f.ok)
 
-  further : (m : n.mode ≡ at_fault → ⊥) → SoFar t n (set_after k s n (get_or t i 0)) (i + 1)
+  pub further : (m : n.mode ≡ at_fault → ⊥) → SoFar t n (set_after k s n (get_or t i 0)) (i + 1)
   further m = rw add-one (⊎_elim bad good (step_reads now (get_or t i 0) f.ok))
     where
       bad : next ≡ fault → SoFar t n (set_after k s n (get_or t i 0)) (suc i)
@@ -82,6 +84,9 @@ module _ (t : List ℕ) (s : State) (k : Set) (i : ℕ) (f : SoFar t s k i) (h :
     where
       good : Ok next × (shown next ≡ shown now ++ (get_or t i 0 ∷ [])) → next ≡ fault
       good g = let x : ⊥ = omega (arith, fault_mode next g.0, ap (λ (x : State). x.mode) packs.is) in absurd x
+
+  pub faulted : n.mode ≡ at_fault → stopped_at i ≡ scan_text t
+  faulted m = scan_by t (stops i (stopped m))
 
 accepts_mode : (q : machine.State) → Ok q → accepts q ≡ whole_at (pack q)
 accepts_mode (word opening k) o = refl
@@ -111,41 +116,12 @@ module _ (t : List ℕ) (s : State) (k : Set) (i : ℕ) (f : SoFar t s k i) (e :
       let g = accepted t (subst T (sym (answer ∙ y)) tt) in
       (g.member, f.says ∙ ap (λ l. set_of (sheet_in (run start l))) all ∙ ap (λ q. set_of (sheet_in q)) g.ends)
 
--- the same, of a text from a place on
-pub record Past (text : List ℕ) (at : ℕ) (s : State) (k : Set) (i : ℕ) : Type 0 where
-  pub from : at ≤ i
-  pub far : SoFar (drop at text) s k (i - at)
+  pub ended : record { reach = length t; set = then_some (whole_at s) k } ≡ scan_text t
+  ended = go (whole_at s) refl
+    where
+      at_end : i ≡ length t
+      at_end = omega (arith, f.within)
 
-module _ (text : List ℕ) (at : ℕ) where
-  pub past_first : Past text at (blank_of set_word) no_set at
-  past_first = let z : 0 ≡ at - at = omega arith in record { from = omega arith; far = subst (SoFar (drop at text) (blank_of set_word) no_set) z (at_first (drop at text)) }
-
-  module _ (s : State) (k : Set) (i : ℕ) (f : Past text at s k i) where
-    inside : i < length text → i - at < length (drop at text)
-    inside h = omega (arith, length-drop at text, f.from)
-
-    here : get_or text i 0 ≡ get_or (drop at text) (i - at) 0
-    here = let z : i ≡ at + (i - at) = omega (arith, f.from) in ap (λ n. get_or text n 0) z ∙ sym (get_or-drop at text (i - at) 0)
-
-    module _ (h : i < length text) (n : State) (e : n ≡ step_of s (get_or text i 0)) where
-      pub past_more : (n.mode ≡ at_fault → ⊥) → Past text at n (set_after k s n (get_or text i 0)) (i + 1)
-      past_more m =
-          let z : i - at + 1 ≡ i + 1 - at = omega (arith, f.from) in
-          let g = further (drop at text) s k (i - at) f.far (inside h) n (e ∙ ap (step_of s) here) m in
-          record { from = omega (arith, f.from); far = subst (λ b. SoFar (drop at text) n (set_after k s n b) (i + 1 - at)) (sym here) (subst (SoFar (drop at text) n _) z g) }
-
-      pub past_fault : n.mode ≡ at_fault → stopped_at (i - at) ≡ scan_text (drop at text)
-      past_fault m = scan_by (drop at text) (stops (i - at) (stopped (drop at text) s k (i - at) f.far (inside h) n (e ∙ ap (step_of s) here) m))
-
-    module _ (h : length text ≤ i) where
-      outside : length (drop at text) ≤ i - at
-      outside = omega (arith, length-drop at text, f.from)
-
-      pub past_open : whole_at s ≡ false → stopped_at (i - at) ≡ scan_text (drop at text)
-      past_open e = scan_by (drop at text) (stops (i - at) (ended_fault (drop at text) s k (i - at) f.far outside e))
-
-      pub past_whole : whole_at s ≡ true → record { whole = true; reach = i - at; set = k } ≡ scan_text (drop at text)
-      past_whole e =
-          let g = ended_sheet (drop at text) s k (i - at) f.far outside e in
-          let n : i - at ≡ length (drop at text) = omega (arith, outside, f.far.within) in
-          (λ j. record { whole = true; reach = n j; set = g.1 j }) ∙ scan_by (drop at text) (fits g.0)
+      go : (b : Bool) → whole_at s ≡ b → record { reach = length t; set = then_some b k } ≡ scan_text t
+      go false n = ap stopped_at (sym at_end) ∙ scan_by t (stops i (ended_fault n))
+      go true y = let g = ended_sheet y in ap (λ x. record { reach = length t; set = Some x }) g.1 ∙ scan_by t (fits g.0)

@@ -1,4 +1,5 @@
 // What a byte of a sheet adds to the name and to the tasks, by the states before it and after it.
+// One test after the other, with a return at each: a sheet is read more slowly with `&&` of them.
 ghost use Rattle.std.specs.Prelude.{◌≡◌};
 ghost use Rattle.sheet_scan.specs.Steps.{name_after, ends_task};
 
@@ -15,7 +16,7 @@ pub(crate) fn add_byte(name: &mut [u8; 16], s: State, n: State, b: u8)
     if n.mode != state::NAME {
         return;
     }
-    let at = s.at as usize;
+    let at = usize::from(s.at);
     if at < 16 {
         name[at] = b;
     }

@@ -5,68 +5,61 @@ mod adds;
 mod steps;
 
 ghost use Rattle.std.specs.Prelude.{◌≡◌, drop};
-ghost use Rattle.sheet_scan.specs.Scan.{stopped_at, scan_text};
+ghost use Rattle.sheet_scan.specs.Scan.{scan_text};
 
 use sheet_fields::fields::ended_task;
 use sheet_fields::state;
 use tasks::sets;
 use tasks::sets::Set;
 
-// What a pass finds: whether the text is a sheet's, how many of its bytes are a beginning of one, and the set; zeros where it is none's.
-#[derive(Clone, Copy)]
+// What a pass finds: how many of the text's bytes are a beginning of a sheet, which is asked for in both cases, and the set where the
+// whole of it is one.
+#[derive(Clone, Copy, Debug, PartialEq, Eq)]
 pub struct Scanned {
-    pub whole: bool,
     pub reach: usize,
-    pub set: Set,
+    pub set: Option<Set>,
 }
 
-// The form stops at a place.
-fn stopped(reach: usize) -> Scanned
-    ensures { result ≡ stopped_at reach }
+// A text from a place on; nothing of it past its end.
+fn rest(text: &[u8], at: usize) -> &[u8]
+    ensures { result.now ≡ drop at text.now }
 {
-    let set = sets::no_set();
-    Scanned {
-        whole: false,
-        reach: reach,
-        set: set,
-    }
+    text.get(at..).unwrap_or(&[])
 }
 
 // The text from a place on, byte by byte.
 pub fn scan(text: &[u8], at: usize) -> Scanned
     ensures { result ≡ scan_text (drop at text.now) }
 {
-    let none = sets::no_set();
-    let mut name = none.name;
-    let mut tasks = none.tasks;
+    let rest = rest(text, at);
+    let Set {
+        mut name,
+        mut tasks,
+        ..
+    } = sets::no_set();
     let mut s = state::blank(state::SET_WORD);
-    let mut i = at;
-    while i < text.len() {
-        let b = text[i];
-        let n = steps::step(s, b);
+    for (i, b) in rest.iter().enumerate() {
+        let n = steps::step(s, *b);
         if n.mode == state::FAULT {
-            return stopped(i - at);
+            return Scanned {
+                reach: i,
+                set: None,
+            };
         }
-        adds::add_byte(&mut name, s, n, b);
+        adds::add_byte(&mut name, s, n, *b);
         if adds::ends_task(s, n) {
-            let k = s.count as usize;
-            let t = ended_task(s);
-            tasks[k] = t;
+            let k = usize::from(s.count);
+            tasks[k] = ended_task(s);
         }
         s = n;
-        i += 1;
-    }
-    if !steps::is_whole(s) {
-        return stopped(i - at);
     }
     let set = Set {
-        name: name,
+        name,
         count: s.count,
-        tasks: tasks,
+        tasks,
     };
     Scanned {
-        whole: true,
-        reach: i - at,
-        set: set,
+        reach: rest.len(),
+        set: steps::is_whole(s).then_some(set),
     }
 }

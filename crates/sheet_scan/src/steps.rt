@@ -7,36 +7,16 @@ use sheet_fields::state;
 use sheet_fields::state::State;
 use tasks::sets;
 
-// The fixed words.
-const SET: [u8; 4] = *b"set ";
-
-const HARD: [u8; 5] = *b"hard ";
-
-const SOFT: [u8; 5] = *b"soft ";
-
-// The byte at a place of the word that the mode names.
-fn letter(mode: u8, at: u8) -> u8
-    requires { at < length (word_at mode) }
-    ensures { result ≡ get_or (word_at mode) at 0 }
+// The fixed word that a mode names.
+#[tactic(auto, unfolding(crate::specs::Steps::word_at))]
+fn word(mode: u8) -> &'static [u8]
+    ensures { result.now ≡ word_at mode }
 {
-    let i = at as usize;
-    if mode == state::SET_WORD {
-        return SET[i];
+    match mode {
+        state::SET_WORD => b"set ",
+        state::HARD_WORD => b"hard ",
+        _ => b"soft ",
     }
-    if mode == state::HARD_WORD {
-        return HARD[i];
-    }
-    SOFT[i]
-}
-
-// The length of that word.
-fn word_length(mode: u8) -> u8
-    ensures { result ≡ length (word_at mode) }
-{
-    if mode == state::SET_WORD {
-        return 4;
-    }
-    5
 }
 
 // One byte in a fixed word. No state that is reached stands past its word's end: the first test only lets the contract hold for every state.
@@ -44,30 +24,27 @@ fn word_length(mode: u8) -> u8
 fn in_word(s: State, b: u8) -> State
     ensures { result ≡ word_of s b }
 {
-    let len = word_length(s.mode);
-    if len <= s.at {
+    let word = word(s.mode);
+    let at = usize::from(s.at);
+    if word.len() <= at || b != word[at] {
         return state::blank(state::FAULT);
     }
-    if b != letter(s.mode, s.at) {
-        return state::blank(state::FAULT);
-    }
-    let n = s.at + 1;
-    if n < len {
-        return state::move_to(s, s.mode, n);
+    if at + 1 < word.len() {
+        return state::move_to(s, s.mode, s.at + 1);
     }
     if s.mode == state::SET_WORD {
         return state::move_to(s, state::NAME, 0);
-    }
-    let mut kind = s.kind;
-    if s.mode == state::HARD_WORD {
-        kind = 1;
     }
     State {
         mode: state::DEADLINE,
         at: 0,
         last: s.last,
         bits: s.bits,
-        kind: kind,
+        kind: if s.mode == state::HARD_WORD {
+            1
+        } else {
+            s.kind
+        },
         deadline: s.deadline,
         runs: s.runs,
         count: s.count,
@@ -75,6 +52,7 @@ fn in_word(s: State, b: u8) -> State
 }
 
 // One byte in the name.
+#[tactic(auto, unfolding(crate::specs::Steps::name_of))]
 fn in_name(s: State, b: u8) -> State
     ensures { result ≡ name_of s b }
 {
@@ -84,29 +62,25 @@ fn in_name(s: State, b: u8) -> State
         }
         return state::blank(state::FAULT);
     }
-    if s.at == 0 {
-        return state::blank(state::FAULT);
-    }
-    if b == b'\n' {
+    if 0 < s.at && b == b'\n' {
         return state::move_to(s, state::LINE, 0);
     }
     state::blank(state::FAULT)
 }
 
 // One byte at the start of a line.
+#[tactic(auto, unfolding(crate::specs::Steps::line_start))]
 fn at_line(s: State, b: u8) -> State
     ensures { result ≡ line_start s b }
 {
     if 7 <= s.count {
         return state::blank(state::FAULT);
     }
-    if b == b'h' {
-        return state::move_to(s, state::HARD_WORD, 1);
+    match b {
+        b'h' => state::move_to(s, state::HARD_WORD, 1),
+        b's' => state::move_to(s, state::SOFT_WORD, 1),
+        _ => state::blank(state::FAULT),
     }
-    if b == b's' {
-        return state::move_to(s, state::SOFT_WORD, 1);
-    }
-    state::blank(state::FAULT)
 }
 
 // One byte. A pass stops at a fault, so the last answer only lets the contract hold for every state.
@@ -114,27 +88,18 @@ fn at_line(s: State, b: u8) -> State
 pub(crate) fn step(s: State, b: u8) -> State
     ensures { result ≡ step_of s b }
 {
-    if s.mode < state::NAME {
-        return in_word(s, b);
+    match s.mode {
+        state::SET_WORD..=state::SOFT_WORD => in_word(s, b),
+        state::NAME => in_name(s, b),
+        state::LINE => at_line(s, b),
+        state::DEADLINE..=state::GAPS => in_field(s, b),
+        _ => state::blank(state::FAULT),
     }
-    if s.mode == state::NAME {
-        return in_name(s, b);
-    }
-    if s.mode == state::LINE {
-        return at_line(s, b);
-    }
-    if s.mode < state::FAULT {
-        return in_field(s, b);
-    }
-    state::blank(state::FAULT)
 }
 
 // Whether the bytes that led to a state are a whole sheet's: a line could begin, and a task has ended.
 pub(crate) fn is_whole(s: State) -> bool
     ensures { result ≡ whole_at s }
 {
-    if s.mode != state::LINE {
-        return false;
-    }
-    0 < s.count
+    s.mode == state::LINE && 0 < s.count
 }

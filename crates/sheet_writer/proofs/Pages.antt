@@ -7,18 +7,17 @@ use native.Mathlib.Nat.{mod-lt, zero-lt-suc}
 use native.Mathlib.Numerals.{add-one, one-add}
 use native.Mathlib.Omega.{arith}
 use lib.Dec.{eqb}
-use lib.ListN.{length, take, get_or}
-use lib.Seq.{take-suc}
+use lib.ListN.{length, take, get_or, length-take}
+use lib.Seq.{take-suc, get_or-take}
 use borrow.Author.Tests.{lt-ltb}
 use Rattle.tasks.specs.declared.sets.Task.{Task}
 use Rattle.tasks.specs.declared.sets.Set.{Set}
 use Rattle.tasks.specs.Lists.{width, values, here, listed}
-use Rattle.tasks.specs.Sets.{no_task}
+use Rattle.tasks.specs.Sets.{no_task, task_at}
 use Rattle.tasks.specs.Valid.{Valid}
 use Rattle.sheet_form.specs.Form.{each, with_comma, line_text}
 use Rattle.sheet_form.specs.Sets.{line_of}
 use Rattle.sheet_form.proofs.Tests.{each_append, each_snoc}
-use Rattle.sheet_form.proofs.Valid.{counted}
 use Rattle.sheet_form.proofs.Lengths.{values_snoc}
 use Rattle.sheet_writer.specs.Page.{value_text}
 
@@ -53,7 +52,10 @@ pub line_more : (ts : List Task) (i : ℕ) → i < length ts
     → each line_text (map line_of (take i ts)) ++ line_text (line_of (get_or ts i no_task)) ≡ each line_text (map line_of (take (i + 1) ts))
 line_more ts i h = sym (rw (add-one, take-suc ts i no_task h, map-append, each_snoc) refl)
 
--- a valid set has a record for task i + 1
-module _ (s : Set) (v : Valid s) (i : ℕ) (h : i < s.count) where
-  pub inside : i < length s.tasks
-  inside = omega (arith, counted s v)
+-- a valid set has a record for each of its tasks
+module _ (s : Set) (v : Valid s) (n i : ℕ) (e : n ≡ s.count) (h : i < length (take n s.tasks)) where
+  pub inside : (i < s.count) × (i < length s.tasks)
+  inside = (omega (arith, length-take n s.tasks), omega (arith, length-take n s.tasks))
+
+  pub its_task : get_or (take n s.tasks) i no_task ≡ task_at s i
+  its_task = get_or-take n s.tasks i no_task (omega (arith, length-take n s.tasks))

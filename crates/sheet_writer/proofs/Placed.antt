@@ -6,24 +6,17 @@ use Prim.Native.Nat.{ℕ, ◌≤◌, ◌<◌}
 use native.Mathlib.Omega.{arith}
 use lib.ListN.{length, drop}
 use borrow.Author.Tests.{le-leb, lt-leb}
-use Rattle.tasks.specs.declared.sets.Set.{Set}
-use Rattle.tasks.specs.declared.sets.Tested.{Tested}
+use Rattle.std.specs.Prelude.{Ok, Err}
 use Rattle.tasks.specs.Refusals.{short}
-use Rattle.tasks.specs.Sets.{test_set}
-use Rattle.sheet_writer.specs.declared.Wrote.TheVariants.{Length, Refused}
-use Rattle.sheet_writer.specs.Writing.{leaving, placed, tested_write, write_of}
+use Rattle.sheet_writer.specs.Writing.{leaving, placed}
 
 module _ (t b : List ℕ) (n : ℕ) (e : n ≡ length t) where
-  pub placed_short : length b < n → leaving (Refused (short n)) b ≡ placed t b
+  pub placed_short : length b < n → leaving (Err (short n)) b ≡ placed t b
   placed_short h =
-      ap (λ k. leaving (Refused (short k)) b) e
-      ∙ sym (ap (λ c. cond c (leaving (Length (length t)) (t ++ drop (length t) b)) (leaving (Refused (short (length t))) b)) (lt-leb (length t) (length b) (omega arith)))
+      ap (λ k. leaving (Err (short k)) b) e
+      ∙ sym (ap (λ c. cond c (leaving (Ok (length t)) (t ++ drop (length t) b)) (leaving (Err (short (length t))) b)) (lt-leb (length t) (length b) (omega arith)))
 
-  pub placed_fits : (d : List ℕ) → n ≤ length b → d ≡ t ++ drop n b → leaving (Length n) d ≡ placed t b
+  pub placed_fits : (d : List ℕ) → n ≤ length b → d ≡ t ++ drop n b → leaving (Ok n) d ≡ placed t b
   placed_fits d h f =
-      ap (leaving (Length n)) f ∙ ap (λ k. leaving (Length k) (t ++ drop k b)) e
-      ∙ sym (ap (λ c. cond c (leaving (Length (length t)) (t ++ drop (length t) b)) (leaving (Refused (short (length t))) b)) (le-leb (length t) (length b) (omega arith)))
-
-pub write_tested_lem : (s : Set) (b : List ℕ) (r : Tested) → test_set s ≡ r → write_of s b ≡ tested_write s b r
-unfolding write_of
-write_tested_lem s b r e = ap (tested_write s b) e
+      ap (leaving (Ok n)) f ∙ ap (λ k. leaving (Ok k) (t ++ drop k b)) e
+      ∙ sym (ap (λ c. cond c (leaving (Ok (length t)) (t ++ drop (length t) b)) (leaving (Err (short (length t))) b)) (le-leb (length t) (length b) (omega arith)))

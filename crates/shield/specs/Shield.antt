@@ -1,20 +1,10 @@
 -- What the builder and the tester do with the entries of a table.
-use Rattle.std.specs.Prelude.{Bool, ◌&&◌, List, ℕ, zero, suc, get_or}
+use Rattle.std.specs.Prelude.{◌&&◌, List, ℕ, zero, suc}
 use Rattle.arena.specs.Arena.{fine, left, shield}
 use Rattle.tasks.specs.declared.sets.Set.{Set}
-use Rattle.tasks.specs.Sets.{task_at, states_of}
-use Rattle.game.specs.States.{state_of}
-use Rattle.game.specs.Game.{legal, arena_of}
-use Rattle.game.specs.Walk.{walk}
+use Rattle.tasks.specs.Sets.{states_of}
+use Rattle.game.specs.Game.{arena_of}
 use Rattle.shield.specs.Entries.{names, entry_of, entry_at, live, list_to}
-
--- the choice c is legal where the tasks are at the local numbers d
-unfoldable pub legal_in : Set → List ℕ → ℕ → Bool
-legal_in s d = legal s (λ k. state_of (task_at s k) (get_or d k 0))
-
--- and each of its outcomes is no miss and on an entry that is not zero
-unfoldable pub fine_in : Set → List ℕ → List ℕ → ℕ → Bool
-fine_in s d table c = legal_in s d c && walk s d c (live table) s.count 0
 
 -- what is left of a state's entry: of the choices that it names, those with all outcomes no miss and on an entry that is not zero
 unfoldable pub next_entry : Set → List ℕ → ℕ → ℕ

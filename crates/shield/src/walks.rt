@@ -1,108 +1,98 @@
 // The outcomes of a choice, tested task by task with fewer tasks left each time, and what they leave of an entry.
-ghost use Rattle.std.specs.Prelude.{◌≡◌, ◌&&◌, ℕ, suc, ◌+◌, ◌*◌, ◌<◌, ◌≤◌, T, eqb, get_or, length};
-ghost use Rattle.tasks.specs.Sets.{task_at, locals_of, states_to, states_of, Passed};
-ghost use Rattle.game.specs.States.{state_of};
-ghost use Rattle.game.specs.Ticks.{in_hand};
+ghost use Rattle.std.specs.Prelude.{◌≡◌, ◌&&◌, ℕ, ◌+◌, ◌*◌, ◌<◌, ◌≤◌, T, get_or, length};
+ghost use Rattle.tasks.specs.Sets.{states_to, states_of};
+ghost use Rattle.arena.specs.Arena.{fine};
+ghost use Rattle.game.specs.States.{local_at};
+ghost use Rattle.game.specs.Game.{legal_at, arena_of};
 ghost use Rattle.game.specs.Walk.{walk};
-ghost use Rattle.shield.specs.Entries.{names, live};
-ghost use Rattle.shield.specs.Shield.{legal_in, fine_in, next_entry};
+ghost use Rattle.shield.specs.Entries.{names, entry_at, live};
+ghost use Rattle.shield.specs.Shield.{next_entry};
 
 use crate::entries;
 use game::{states, ticks};
 use tasks::sets;
-use tasks::sets::Set;
+use tasks::sets::ValidSet;
 
-// With k tasks left, at the local numbers d, and the index of those done: each outcome of a choice is no miss and on an entry that is not zero.
-fn walk_on(s: Set, d: &[u32; 7], table: &[u8], choice: usize, k: usize, at: usize) -> bool
-    requires passed { Passed s × (k ≤ s.count) × ((at + 1) * states_to s k ≤ length table.now) }
-    requires by_index { (j : ℕ) → j < k → get_or d.now j 0 < locals_of (task_at s j) }
-    requires by_index_2 { (j : ℕ) → j < k → T (eqb choice (suc j)) → T (in_hand (state_of (task_at s j) (get_or d.now j 0)).job) }
-    ensures { result ≡ walk s d.now choice (live table.now) k at }
+// The table is lent with any length: that it has room is shown once, by `build_passed` and `test_passed`.
+// A state of a set: its index, and the local numbers of its tasks.
+#[derive(Clone, Copy)]
+struct State {
+    v: ValidSet,
+    index: usize,
+    locals: [u32; 7],
+    ghost inside: { index < states_of v.set },
+    ghost by_task: { (k : ℕ) → k < v.set.count → get_or locals k 0 ≡ local_at v.set index k },
+}
+
+// With k tasks left, and the index of those done: each outcome of a legal choice is no miss and on an entry that is not zero.
+#[tactic(auto, using(game::proofs::StateLaws::count_le, crate::proofs::FineLaws::locals_lt, crate::proofs::FineLaws::legal_hand))]
+fn walk_on(state: &State, table: &[u8], choice: usize, k: usize, at: usize) -> bool
+    requires room { (k ≤ state.now.v.set.count) × ((at + 1) * states_to state.now.v.set k ≤ length table.now) }
+    requires legal { T (legal_at state.now.v.set state.now.index choice) }
+    ensures { result ≡ walk state.now.v.set state.now.locals choice (live table.now) k at }
 {
     if k == 0 {
         return table[at] != 0;
     }
     let left = k - 1;
-    let t = s.tasks[left];
-    let m = ticks::moves_of(t, choice == k, d[left]);
+    let t = state.v.set.tasks[left];
+    let m = ticks::moves_of(t, choice == k, state.locals[left]);
     if m.misses {
         return false;
     }
     let from = at * (sets::locals(t) as usize);
-    if m.comes {
-        if !walk_on(s, d, table, choice, left, from) {
+    if m.comes && !walk_on(state, table, choice, left, from) {
+        return false;
+    }
+    if let Some(l) = m.ended {
+        if !walk_on(state, table, choice, left, from + l as usize) {
             return false;
         }
     }
-    if m.ends {
-        if !walk_on(s, d, table, choice, left, from + m.ended as usize) {
-            return false;
-        }
+    match m.stayed {
+        Some(l) => walk_on(state, table, choice, left, from + l as usize),
+        None => true,
     }
-    if m.stays {
-        return walk_on(s, d, table, choice, left, from + m.stayed as usize);
-    }
-    true
 }
 
-// Whether a choice is idle or a runnable task, at the local numbers d.
-fn is_legal(s: Set, d: &[u32; 7], choice: usize) -> bool
-    requires passed { Passed s }
-    requires by_index { (j : ℕ) → j < s.count → get_or d.now j 0 < locals_of (task_at s j) }
-    ensures { result ≡ legal_in s d.now choice }
+// Whether a choice is legal in a state, with all outcomes no miss and on an entry that is not zero.
+#[tactic(auto, using(game::proofs::StateLaws::count_le, crate::proofs::FineLaws::locals_lt))]
+fn is_fine(state: &State, table: &[u8], choice: usize) -> bool
+    requires { states_of state.now.v.set ≤ length table.now }
+    ensures { result ≡ fine (arena_of state.now.v.set) (live table.now) state.now.index choice }
 {
-    if choice == 0 {
-        return true;
-    }
-    if (s.count as usize) < choice {
-        return false;
-    }
-    let t = s.tasks[choice - 1];
-    let x = states::state_of(t, d[choice - 1]);
-    ticks::is_runnable(t, x)
-}
-
-// Whether a choice is legal at the local numbers d, with all outcomes no miss and on an entry that is not zero.
-fn is_fine(s: Set, d: &[u32; 7], table: &[u8], choice: usize) -> bool
-    requires passed { Passed s × (states_of s ≤ length table.now) }
-    requires by_index { (j : ℕ) → j < s.count → get_or d.now j 0 < locals_of (task_at s j) }
-    ensures { result ≡ fine_in s d.now table.now choice }
-{
-    if !is_legal(s, d, choice) {
-        return false;
-    }
-    walk_on(s, d, table, choice, s.count as usize, 0)
+    let s = state.v.set;
+    ticks::is_legal(s, choice, |k| states::state_of(s.tasks[k], state.locals[k]))
+        && walk_on(state, table, choice, s.count as usize, 0)
 }
 
 // What is left of the entry of state i.
-pub(crate) fn next_entry(s: Set, table: &[u8], i: usize) -> u8
-    requires { Passed s × (i < states_of s) × (states_of s ≤ length table.now) }
-    ensures { result ≡ next_entry s table.now i }
+#[tactic(auto, using(crate::proofs::FineLaws::next_none, crate::proofs::FineLaws::marks_room), unfolding(crate::specs::Entries::marks))]
+pub(crate) fn next_entry(v: &ValidSet, table: &[u8], i: usize) -> u8
+    requires { (i < states_of v.now.set) × (states_of v.now.set ≤ length table.now) }
+    ensures { result ≡ next_entry v.now.set table.now i }
 {
-    let old = table[i];
-    if old == 0 {
+    if table[i] == 0 {
         return 0;
     }
-    let d = states::locals_at(s, i);
-    let mut entry: u8 = 0;
-    let mut choice = 0;
-    while choice < 8 {
-        if still_fine(s, &d, table, old, choice) {
-            entry = entry + entries::only(choice);
+    let state = State {
+        v: *v,
+        index: i,
+        locals: states::locals_at(v.set, i),
+    };
+    let mut entry = 0;
+    for choice in 0..8 {
+        if still_fine(&state, table, choice) {
+            entry += entries::only(choice);
         }
-        choice += 1;
     }
     entry
 }
 
-// Whether an entry names a choice that is fine.
-fn still_fine(s: Set, d: &[u32; 7], table: &[u8], old: u8, choice: usize) -> bool
-    requires passed { Passed s × (states_of s ≤ length table.now) × (choice < 8) }
-    requires by_index { (j : ℕ) → j < s.count → get_or d.now j 0 < locals_of (task_at s j) }
-    ensures { result ≡ (names old choice && fine_in s d.now table.now choice) }
+// Whether a state's entry names a choice that is fine.
+fn still_fine(state: &State, table: &[u8], choice: usize) -> bool
+    requires { (states_of state.now.v.set ≤ length table.now) × (choice < 8) }
+    ensures { result ≡ (names (entry_at table.now state.now.index) choice && fine (arena_of state.now.v.set) (live table.now) state.now.index choice) }
 {
-    if !entries::allows(old, choice) {
-        return false;
-    }
-    is_fine(s, d, table, choice)
+    entries::allows(table[state.index], choice) && is_fine(state, table, choice)
 }

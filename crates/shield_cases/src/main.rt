@@ -1,66 +1,59 @@
 // Worked cases of the builder and the tester, a line each.
 #![tactic(auto)]
 
-use cases::lines::{checksum, put, put_bytes, put_number, put_refusal};
-use cases::sets::{
-    V1, V2, V3, V4, V5, V13, V14, V16, all, example, hard, one, pair, soft, three, two,
-};
+use cases::lines::{checksum, put, put_bytes, put_label, put_number, put_refusal, put_taken};
+use cases::sets::{V1, V2, V3, V4, V5, V13, V14, V16, all, case_of, example, hard, pair, soft};
 use shield::builder::Built;
-use shield::tester::Verdict;
 use shield::{builder, tester};
+use tasks::refusals::Refusal;
 use tasks::sets::Set;
 
-fn put_built(rt: &impl Print, b: Built) {
-    match b {
-        Built::Done {
-            safe,
-            rounds,
-            start,
-        } => {
-            put_number(rt, b" safe ", safe as u64);
-            put_number(rt, b" rounds ", rounds as u64);
-            put_number(rt, b" start ", start as u64);
+fn put_built(rt: &impl Print, built: Result<Built, Refusal>) {
+    match built {
+        Ok(b) => {
+            put_number(rt, b" safe ", b.safe);
+            put_number(rt, b" rounds ", b.rounds);
+            put_number(rt, b" start ", b.start);
         }
-        Built::Refused(f) => put_refusal(rt, f),
+        Err(f) => put_refusal(rt, f.number(), f.place),
     }
 }
 
-fn put_verdict(rt: &impl Print, v: Verdict) {
-    match v {
-        Verdict::Passes => put(rt, b" passes"),
-        Verdict::Refused(f) => put_refusal(rt, f),
-    }
-}
-
-// What the builder answers, and every byte that it was lent.
-fn show(rt: &impl Print, label: &[u8], s: Set, table: &mut [u8], work: &mut [u8]) {
-    put(rt, b"build ");
-    put(rt, label);
-    put(rt, b":");
+// What the builder answers, and the buffers that it was lent.
+fn show_by<F: Fn(&[u8])>(
+    rt: &impl Print,
+    label: &[u8],
+    s: Set,
+    table: &mut [u8],
+    work: &mut [u8],
+    put_buffer: F,
+)
+    requires { F.IsAlwaysCallable put_buffer }
+{
+    put_label(rt, b"build ", label);
     put_built(rt, builder::build(s, table, work));
     put(rt, b" table");
-    put_bytes(rt, table);
+    put_buffer(table);
     put(rt, b" work");
-    put_bytes(rt, work);
+    put_buffer(work);
     put(rt, b"\n");
 }
 
-// The same for long buffers, with a checksum in place of the bytes.
+// With every byte.
+fn show(rt: &impl Print, label: &[u8], s: Set, table: &mut [u8], work: &mut [u8]) {
+    show_by(rt, label, s, table, work, |buf| put_bytes(rt, buf));
+}
+
+// For long buffers, with a checksum in place of the bytes.
 fn show_long(rt: &impl Print, label: &[u8], s: Set, table: &mut [u8], work: &mut [u8]) {
-    put(rt, b"build ");
-    put(rt, label);
-    put(rt, b":");
-    put_built(rt, builder::build(s, table, work));
-    put_number(rt, b" table sum ", checksum(table) as u64);
-    put_number(rt, b" work sum ", checksum(work) as u64);
-    put(rt, b"\n");
+    show_by(rt, label, s, table, work, |buf| {
+        put_number(rt, b" sum ", checksum(buf))
+    });
 }
 
 fn show_test(rt: &impl Print, label: &[u8], s: Set, table: &[u8]) {
-    put(rt, b"test ");
-    put(rt, label);
-    put(rt, b":");
-    put_verdict(rt, tester::test(s, table));
+    put_label(rt, b"test ", label);
+    put_taken(rt, b" passes", tester::test(s, table));
     put(rt, b"\n");
 }
 
@@ -70,7 +63,7 @@ fn figure_cases(rt: &impl Print) {
     show(
         rt,
         b"hard 1 1 1",
-        one(hard(1, V1, V1)),
+        case_of([hard(1, V1, V1)]),
         &mut [7; 2],
         &mut [9; 2],
     );
@@ -99,21 +92,21 @@ fn refused_cases(rt: &impl Print) {
     show(
         rt,
         b"two of hard 3 2 4",
-        two(a, a),
+        case_of([a, a]),
         &mut [7; 145],
         &mut [9; 146],
     );
     show(
         rt,
         b"hard 2 1,2 2, hard 2 1 2",
-        two(hard(2, V1 + V2, V2), hard(2, V1, V2)),
+        case_of([hard(2, V1 + V2, V2), hard(2, V1, V2)]),
         &mut [7; 26],
         &mut [9; 25],
     );
     show(
         rt,
         b"hard 3 1,2 3, hard 1 1 1,2",
-        two(hard(3, V1 + V2, V3), hard(1, V1, V1 + V2)),
+        case_of([hard(3, V1 + V2, V3), hard(1, V1, V1 + V2)]),
         &mut [7; 36],
         &mut [9; 36],
     );
@@ -124,14 +117,14 @@ fn round_cases(rt: &impl Print) {
     show(
         rt,
         b"hard 1 1 3",
-        one(hard(1, V1, V3)),
+        case_of([hard(1, V1, V3)]),
         &mut [7; 6],
         &mut [9; 6],
     );
     show(
         rt,
         b"hard 4 2 4, hard 2 1 2",
-        two(hard(4, V2, V4), hard(2, V1, V2)),
+        case_of([hard(4, V2, V4), hard(2, V1, V2)]),
         &mut [7; 48],
         &mut [9; 48],
     );
@@ -186,8 +179,8 @@ fn buffer_cases(rt: &impl Print) {
 
 // The set's own test comes first.
 fn set_cases(rt: &impl Print) {
-    let long = one(hard(2, V3, V3));
-    let large = two(hard(16, V16, V16), hard(13, V13, V16));
+    let long = case_of([hard(2, V3, V3)]);
+    let large = case_of([hard(16, V16, V16), hard(13, V13, V16)]);
     show(rt, b"hard 2 3 3, no bytes", long, &mut [7; 0], &mut [9; 0]);
     show(rt, b"hard 2 3 3", long, &mut [7; 12], &mut [9; 12]);
     show(
@@ -204,8 +197,8 @@ fn set_cases(rt: &impl Print) {
 // The built table of PAIR, with v at one place.
 fn pair_with(at: usize, v: u8) -> [u8; 16] {
     let mut table = [6, 5, 2, 5, 3, 1, 2, 1, 4, 4, 0, 4, 3, 1, 2, 1];
-    if at < 16 {
-        table[at] = v;
+    if let Some(x) = table.get_mut(at) {
+        *x = v;
     }
     table
 }
@@ -244,8 +237,8 @@ fn length_tests(rt: &impl Print) {
 
 // Early finishes, arrivals that stay away, and a task 7.
 fn outcome_tests(rt: &impl Print) {
-    let early = one(hard(2, V1 + V2, V2));
-    let away = one(hard(1, V1, V1 + V2));
+    let early = case_of([hard(2, V1 + V2, V2)]);
+    let away = case_of([hard(1, V1, V1 + V2)]);
     let many = all(7, soft(1, V1, V1));
     show_test(rt, b"hard 2 1,2 2, 2 0 0 0 2 0", early, &[2, 0, 0, 0, 2, 0]);
     show_test(rt, b"hard 2 1,2 2, 2 0 0 0 2 1", early, &[2, 0, 0, 0, 2, 1]);
@@ -270,8 +263,8 @@ fn outcome_tests(rt: &impl Print) {
 fn large_cases(rt: &impl Print) {
     let mut table = [7; 60000];
     let mut work = [9; 60000];
-    let a = three(soft(14, V14, V16), hard(1, V1, V5), hard(5, V1 + V4, V5));
-    let b = three(hard(14, V14, V16), hard(1, V1, V5), hard(4, V4, V5));
+    let a = case_of([soft(14, V14, V16), hard(1, V1, V5), hard(5, V1 + V4, V5)]);
+    let b = case_of([hard(14, V14, V16), hard(1, V1, V5), hard(4, V4, V5)]);
     show_long(
         rt,
         b"soft 14 14 16, hard 1 1 5, hard 5 1,4 5",

@@ -8,6 +8,7 @@ use native.Mathlib.Omega.{arith}
 use lib.ListN.{length, get_or, length-append, get_or-append}
 use lib.Pow.{pow-add}
 use lib.Seq.{get_or-append-add}
+use Rattle.std.specs.Int.{to_le_bytes, w16, w32}
 use Rattle.tasks.specs.declared.sets.Task.{Task}
 use Rattle.tasks.specs.declared.sets.Set.{Set}
 use Rattle.tasks.specs.Sets.{task_at, states_of}
@@ -34,7 +35,17 @@ unfolding low_first
 low_length zero x = refl
 low_length (suc n) x = ap suc (low_length n (x / 256))
 
+-- the library's bytes of a number of 32 bits
+pub low_four : (x : ℕ) → to_le_bytes w32 x ≡ low_first 4 x
+unfolding low_first
+low_four x = simp div-div-eq-div-mul
+
 -- the six bytes of a task
+pub six_bytes : (τ : Task) (r g : List ℕ) → r ≡ to_le_bytes w16 τ.runs → g ≡ to_le_bytes w16 τ.gaps
+    → τ.kind ∷ τ.deadline ∷ get_or r 0 0 ∷ get_or r 1 0 ∷ get_or g 0 0 ∷ get_or g 1 0 ∷ [] ≡ task_bytes τ
+unfolding task_bytes low_first
+six_bytes τ r g e f = rw (e, f) refl
+
 module _ (τ : Task) (k : ℕ) where
   lists : List ℕ
   lists = low_first 2 τ.runs ++ low_first 2 τ.gaps
@@ -139,8 +150,6 @@ module _ (s : Set) (name : length s.name ≡ 16) where
       ∙ at_right (to_count s) (tasks_bytes s s.count) 22 (22 + (6 * j + k)) count_length (omega arith)
       ∙ ap (λ (i : ℕ). get_or (tasks_bytes s s.count) i 0) e ∙ tasks_at s s.count j k h l
 
-  pub states_at : (i : ℕ) → 22 + 6 * s.count ≤ i → i < header_length s → get_or (header s) i 0 ≡ states_of s / 2 ^ (8 * (i - (22 + 6 * s.count))) % 256
+  pub states_at : (i : ℕ) → 22 + 6 * s.count ≤ i → get_or (header s) i 0 ≡ get_or (low_first 4 (states_of s)) (i - (22 + 6 * s.count)) 0
   unfolding header
-  states_at i l h =
-      at_right (to_tasks s) (low_first 4 (states_of s)) (22 + 6 * s.count) i to_length l
-      ∙ low_at 4 (states_of s) (i - (22 + 6 * s.count)) (omega arith)
+  states_at i l = at_right (to_tasks s) (low_first 4 (states_of s)) (22 + 6 * s.count) i to_length l

@@ -10,13 +10,14 @@ use Rattle.arena.proofs.Tests.{lt_or_le}
 use Rattle.tasks.specs.declared.sets.Task.{Task}
 use Rattle.tasks.specs.declared.sets.Set.{Set}
 use Rattle.tasks.specs.Refusals.{header_differs}
+use Rattle.tasks.specs.declared.refusals.Reason.TheVariants.{HeaderDiffers}
 use Rattle.tasks.specs.Sets.{no_task, task_at, Sized, states_of, Passed}
 use Rattle.tasks.proofs.SetLaws.{blank_is}
 use Rattle.tasks.proofs.Valid.{passed_valid}
 use Rattle.table_file.specs.Files.{task_bytes, header, header_length, file_of}
-use Rattle.table_file.specs.Open.{present, open_tested, open_of, said_opened}
+use Rattle.table_file.specs.Open.{present, refuse, open_tested, open_of, said_opened}
 use Rattle.table_file.proofs.FileLaws.{fixed_at, name_at, count_at, task_at_lem, task_kind, task_deadline, task_runs, task_gaps}
-use Rattle.table_file.proofs.OpenLaws.{present_long, open_header}
+use Rattle.table_file.proofs.OpenLaws.{open_header}
 use Rattle.table_file.proofs.Opening.{Opening, opening, said_opens, none_in, first_in}
 use Rattle.table_file.proofs.Trips.{file_length_lem, file_header, Opens}
 
@@ -81,13 +82,12 @@ module _ (s u : Set) (m : length s.name ≡ 16) (n : length u.name ≡ 16) (p : 
   other_name k b e d =
       let f = file_of s t in
       let l = file_length_lem s m p t ht in
-      let long : 26 ≤ present u f = present_long u f (omega (arith, l)) in
+      let long : 26 ≤ present u f = omega (arith, l) in
       let x = none_in u f 0 3 (omega arith) (λ i h. byte i k b (omega arith) e) in
       let y = none_in u f 3 5 (omega arith) (λ i h. byte i k b (omega arith) e) in
       let z = first_in u f 5 (present u f) (5 + k) (omega arith) (omega arith) (λ i h. byte i k b h e) (λ g. d (there k b g)) in
       ap said_opened
-      (ap (open_tested u f) q
-      ∙ open_header u f (omega (arith, l)) (omega arith) (omega arith) (present u f) (5 + k) refl (sym z) (omega arith))
+      (ap (open_tested u f) q ∙ open_header u f (omega arith) (omega arith) (omega arith) (omega arith) ∙ ap (refuse HeaderDiffers) z)
     where
       there : (k : ℕ) → k < 16 → get_or (file_of s t) (5 + k) 0 ≡ get_or (header u) (5 + k) 0 → get_or s.name k 0 ≡ get_or u.name k 0
       there k b g =

@@ -9,18 +9,13 @@ use lib.Dec.{T, ltb, nltb→le}
 use lib.ListN.{length, get_or, take, drop, length-append, take-append-drop, length-drop, get_or-append}
 use lib.Seq.{length-take-le, take_all, take_at, drop_at, get_or-take, ext_get_or}
 use Rattle.tasks.specs.declared.refusals.Refusal.{Refusal}
+use Rattle.std.specs.Prelude.{Result, Ok, Err}
 use Rattle.tasks.specs.declared.sets.Set.{Set}
-use Rattle.tasks.specs.declared.sets.Tested.{Tested}
-use Rattle.tasks.specs.Refusals.{answered}
+use Rattle.tasks.specs.Refusals.{answered, number_of}
 use Rattle.tasks.specs.Sets.{states_of, test_set, Passed}
 use Rattle.tasks.proofs.Valid.{valid, passed, refused_number}
-use Rattle.shield.specs.declared.tester.Verdict.TheVariants.{Passes}
-use Rattle.shield.specs.declared.tester.Verdict.{Verdict}
 use Rattle.shield.specs.Test.{test_of, said_verdict}
 use Rattle.shield.proofs.Tested.{entries_test, refused_said}
-use Rattle.table_file.specs.declared.writer.Written.{Written}
-use Rattle.table_file.specs.declared.writer.Written.TheVariants.{Length}
-use Rattle.table_file.specs.declared.opener.Opened.TheVariants as Opened
 use Rattle.table_file.specs.Files.{header, header_length, file_of, file_length}
 use Rattle.table_file.specs.Write.{write_verdict, write_tested, write_of, file_written, Writes, said_written}
 use Rattle.table_file.specs.Open.{open_of, part_of, handed, said_opened}
@@ -42,7 +37,7 @@ module _ (s : Set) (n : length s.name ≡ 16) (p : Passed s) (t : List ℕ) (ht 
   unfolding file_of
   file_part = drop_at (header s) (take (states_of s) t) (header_length s) (header_length_lem s n)
 
-  pub file_opens : test_of s t ≡ Passes → open_of s (file_of s t) ≡ Opened.Opens
+  pub file_opens : test_of s t ≡ Ok tt → open_of s (file_of s t) ≡ (Ok tt)
   file_opens e =
       opens s (file_of s t)
       (record { set = p; same = file_header; long = file_length_lem; part = ap (test_of s) file_part ∙ entries_test s p t ht ∙ e })
@@ -62,26 +57,26 @@ module _ (s : Set) (file : List ℕ) (o : Opening s file) where
       sym (take-append-drop k file) ∙ ap₂ (λ (x y : List ℕ). x ++ y) e (sym (take_all (states_of s) (drop k file) (le_of_eq part_length)))
 
 -- what a file that was written says: the set passes, and the table is long enough and passes the test
-pub record Wrote (s : Set) (t : List ℕ) (r : Written) : Type 0 where
+pub record Wrote (s : Set) (t : List ℕ) (r : Result ℕ Refusal) : Type 0 where
   pub set : Passed s
   pub table : states_of s ≤ length t
-  pub test : test_of s t ≡ Passes
-  pub answer : r ≡ Length (file_length s)
+  pub test : test_of s t ≡ Ok tt
+  pub answer : r ≡ Ok (file_length s)
 
-on : (b : Bool) (f : Refusal) (r x : Written) → (said_written r).number ≡ 0 → 1 ≤ f.number → r ≡ cond b (Written.Refused f) x → T (not b) × (r ≡ x)
+on : (b : Bool) (f : Refusal) (r x : Result ℕ Refusal) → (said_written r).number ≡ 0 → 1 ≤ number_of f.reason → r ≡ cond b (Err f) x → T (not b) × (r ≡ x)
 on true f r x a h e = absurd (omega (arith, ap (λ r. (said_written r).number) e))
 on false f r x a h e = (tt, e)
 
-pub wrote : (s : Set) (t : List ℕ) (k : ℕ) (r : Written) → (said_written r).number ≡ 0 → r ≡ write_of s t k → Wrote s t r
+pub wrote : (s : Set) (t : List ℕ) (k : ℕ) (r : Result ℕ Refusal) → (said_written r).number ≡ 0 → r ≡ write_of s t k → Wrote s t r
 wrote s t k r a = go (test_set s) refl
   where
-    tested : (v : Verdict) → test_of s t ≡ v → r ≡ write_verdict s v → (test_of s t ≡ Passes) × (r ≡ Length (file_length s))
-    tested Passes q e = (q, e)
-    tested (Verdict.Refused f) q e = absurd (omega (arith, refused_said s t f q, ap (λ r. (said_written r).number) e))
+    tested : (v : Result Unit Refusal) → test_of s t ≡ v → r ≡ write_verdict s v → (test_of s t ≡ Ok tt) × (r ≡ Ok (file_length s))
+    tested (Ok u) q e = (q, e)
+    tested (Err f) q e = absurd (omega (arith, refused_said s t f q, ap (λ r. (said_written r).number) e))
 
-    go : (x : Tested) → test_set s ≡ x → r ≡ write_tested s t k x → Wrote s t r
-    go (Tested.Refused f) q e = absurd (omega (arith, (refused_number s f q).0, ap (λ r. (said_written r).number) e))
-    go (Tested.States S) q e =
+    go : (x : Result ℕ Refusal) → test_set s ≡ x → r ≡ write_tested s t k x → Wrote s t r
+    go (Err f) q e = absurd (omega (arith, (refused_number s f q).0, ap (λ r. (said_written r).number) e))
+    go (Ok S) q e =
         let v = (valid s S q).1 in
         let b = on (ltb (length t) S) _ r _ a (omega arith) e in
         let c = on (ltb k (file_length s)) _ r _ a (omega arith) b.1 in
@@ -93,7 +88,7 @@ abbrev pub Opens : Set → List ℕ → Type 0
 Opens s file = (said_opened (open_of s file)).number ≡ 0
 
 -- opening what was written gives back the table's first S bytes; n is the length that the writer answered
-pub written_opens : (s : Set) → length s.name ≡ 16 → (t f f' : List ℕ) (r : Written) → Writes s t f r f' → (n : ℕ) → said_written r ≡ answered (n ∷ [])
+pub written_opens : (s : Set) → length s.name ≡ 16 → (t f f' : List ℕ) (r : Result ℕ Refusal) → Writes s t f r f' → (n : ℕ) → said_written r ≡ answered (n ∷ [])
     → Opens s (take n f') × (handed s (take n f') ≡ take (states_of s) t)
 written_opens s b t f f' r w n a =
     let x = wrote s t (length f) r (ap (λ a. a.number) a) w.answer in
@@ -110,7 +105,7 @@ handed_passes s file o =
     ap (λ v. (said_verdict v).number) (ap (test_of s) (ap (part_of s file) e) ∙ (opening s file e).part)
 
 -- a file that opens for a set is byte for byte the one that the writer makes of its table
-pub opened_written : (s : Set) → length s.name ≡ 16 → (file : List ℕ) → Opens s file → (f f' : List ℕ) (r : Written)
+pub opened_written : (s : Set) → length s.name ≡ 16 → (file : List ℕ) → Opens s file → (f f' : List ℕ) (r : Result ℕ Refusal)
     → length file ≤ length f → Writes s (handed s file) f r f' → (said_written r ≡ answered (length file ∷ [])) × (take (length file) f' ≡ file)
 opened_written s n file e f f' r h w =
     let v = said_opens s file e in
@@ -118,6 +113,6 @@ opened_written s n file e f f' r h w =
     let t = handed s file in
     let q : t ≡ drop (header_length s) file = ap (part_of s file) v in
     let l : length t ≡ states_of s = ap length q ∙ part_length s file o in
-    let a : r ≡ Length (length file) = w.answer ∙ with_room s o.set t f (omega arith) (omega (arith, o.long)) ∙ ap (write_verdict s) (ap (test_of s) q ∙ o.part) ∙ ap Length (sym o.long) in
+    let a : r ≡ Ok (length file) = w.answer ∙ with_room s o.set t f (omega arith) (omega (arith, o.long)) ∙ ap (write_verdict s) (ap (test_of s) q ∙ o.part) ∙ ap Ok (sym o.long) in
     let b : file_of s t ≡ file = ap (file_of s) q ∙ sym (file_same s file o n) in
-    (ap said_written a, ap (take (length file)) (w.file ∙ ap (λ (x : Written). file_written s t x f) a ∙ ap (λ (x : List ℕ). x ++ drop (length file) f) b) ∙ take_at file (drop (length file) f) (length file) refl)
+    (ap said_written a, ap (take (length file)) (w.file ∙ ap (λ (x : Result ℕ Refusal). file_written s t x f) a ∙ ap (λ (x : List ℕ). x ++ drop (length file) f) b) ∙ take_at file (drop (length file) f) (length file) refl)

@@ -1,88 +1,62 @@
 // The writer: a set's table as a file, once the table has passed the test.
 ghost use Rattle.std.specs.Prelude.{◌≡◌, ◌++◌, ◌≤◌, length, drop};
-ghost use Rattle.tasks.specs.Sets.{states_of, Passed};
 ghost use Rattle.table_file.specs.Files.{header, header_length, file_of, file_length};
-ghost use Rattle.table_file.specs.Write.{too_short, Writes};
+ghost use Rattle.table_file.specs.Write.{Writes};
 
 use crate::headers;
 use shield::tester;
-use shield::tester::Verdict;
-use tasks::refusals::Refusal;
-use tasks::sets::{Set, Tested};
-use tasks::{refusals, sets};
+use tasks::refusals::{Reason, Refusal};
+use tasks::sets::{Set, ValidSet};
 
-// What the writer answers: the file's length, or the refusal.
-#[derive(Clone, Copy)]
-pub enum Written {
-    Length(u32),
-    Refused(Refusal),
-}
-
-// The header of a set with n states goes to the file's beginning.
-fn put_header(s: Set, n: u32, file: &mut [u8])
-    requires { Passed s × (n ≡ states_of s) × (header_length s ≤ length file.old) }
-    ensures { file.new ≡ header s ++ drop (header_length s) file.old }
+// A set's header goes to the file's beginning.
+#[tactic(auto, using(shield::proofs::EntryLaws::copy_step, crate::proofs::FileLaws::header_length_lem))]
+fn put_header(v: ValidSet, file: &mut [u8])
+    requires { header_length v.set ≤ length file.old }
+    ensures { file.new ≡ header v.set ++ drop (header_length v.set) file.old }
 {
-    let end = headers::header_length(s);
-    let mut i = 0;
-    while i < end {
-        file[i] = headers::header_byte(s, n, i);
-        i += 1;
+    for i in 0..headers::header_length(v.set) {
+        file[i] = headers::header_byte(v, i);
     }
 }
 
-// The file of a set with n states: the header, and behind it the table's first n entries.
-fn put_file(s: Set, n: u32, table: &[u8], file: &mut [u8])
-    requires { Passed s × (n ≡ states_of s) × (n ≤ length table.now) × (file_length s ≤ length file.old) }
-    ensures { file.new ≡ file_of s table.now ++ drop (file_length s) file.old }
+// The file of a set: the header, and behind it the table's entries, one a state.
+fn put_file(v: ValidSet, table: &[u8], file: &mut [u8])
+    requires { (v.states ≤ length table.now) × (file_length v.set ≤ length file.old) }
+    ensures { file.new ≡ file_of v.set table.now ++ drop (file_length v.set) file.old }
 {
-    put_header(s, n, file);
-    let head = headers::header_length(s);
-    let size = n as usize;
+    put_header(v, file);
+    let head = headers::header_length(v.set);
+    let size = v.states as usize;
     file[head..head + size].copy_from_slice(&table[..size]);
 }
 
-// A buffer shorter than n bytes.
-fn short(n: u32) -> Written
-    ensures { result ≡ too_short n }
+// The writer, for a set that has passed the test.
+fn write_passed(v: ValidSet, table: &[u8], file: &mut [u8]) -> Result<u32, Refusal>
+    ensures { Writes v.set table.now file.old result file.new }
 {
-    Written::Refused(Refusal {
-        number: refusals::BUFFER_TOO_SHORT,
-        place: n,
-    })
-}
-
-// The writer, for a set that has passed the test and its number of states.
-fn write_passed(s: Set, table: &[u8], file: &mut [u8], n: u32) -> Written
-    requires { Passed s × (n ≡ states_of s) }
-    ensures { Writes s table.now file.old result file.new }
-{
-    let size = n as usize;
+    let size = v.states as usize;
     if table.len() < size {
-        return short(n);
+        return Err(Refusal {
+            reason: Reason::BufferTooShort,
+            place: v.states,
+        });
     }
-    let length = headers::header_length(s) + size;
+    let length = headers::header_length(v.set) + size;
     let answer = length as u32;
     if file.len() < length {
-        return short(answer);
+        return Err(Refusal {
+            reason: Reason::BufferTooShort,
+            place: answer,
+        });
     }
-    let verdict = tester::test(s, table);
-    match verdict {
-        Verdict::Refused(f) => Written::Refused(f),
-        Verdict::Passes => {
-            put_file(s, n, table, file);
-            Written::Length(answer)
-        }
-    }
+    tester::test(v.set, table)?;
+    put_file(v, table, file);
+    Ok(answer)
 }
 
 // The writer: the file of a set's table, or why there is none.
-pub fn write(s: Set, table: &[u8], file: &mut [u8]) -> Written
+pub fn write(s: Set, table: &[u8], file: &mut [u8]) -> Result<u32, Refusal>
     ensures { Writes s table.now file.old result file.new }
 {
-    let tested = sets::test(s);
-    match tested {
-        Tested::Refused(f) => Written::Refused(f),
-        Tested::States(n) => write_passed(s, table, file, n),
-    }
+    write_passed(ValidSet::of(s)?, table, file)
 }

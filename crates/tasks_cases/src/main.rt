@@ -1,46 +1,35 @@
 // Worked cases of lists, names, tasks and sets, a line each.
 #![tactic(auto)]
 
-use cases::lines::{put, put_number, put_refusal};
+use cases::lines::{put, put_answer, put_number};
 use cases::sets::{
-    V1, V2, V3, V4, V5, V6, V7, V13, V14, V15, V16, all, blank, hard, named, one, set, soft, task,
-    three, two,
+    V1, V2, V3, V4, V5, V6, V7, V13, V14, V15, V16, all, blank, case_of, hard, named, set, soft,
+    task,
 };
-use tasks::sets::{Set, Task, Tested};
+use tasks::sets::{Set, Task};
 use tasks::{lists, sets};
-
-fn put_value(rt: &impl Print, list: u16, v: u32) {
-    if lists::has(list, v) {
-        put_number(rt, b" ", v as u64);
-    }
-}
-
-fn put_character(rt: &impl Print, b: u8) {
-    if sets::name_byte(b) {
-        put(rt, &[b]);
-    }
-}
 
 // Which of 0 to 17 a list has.
 fn put_values(rt: &impl Print, list: u16) {
     for v in 0..18 {
-        put_value(rt, list, v);
+        if lists::has(list, v) {
+            put_number(rt, b" ", v);
+        }
     }
 }
 
 // Which bytes are characters of a name.
 fn put_characters(rt: &impl Print) {
     for b in 0..=255 {
-        put_character(rt, b);
+        if sets::name_byte(b) {
+            put(rt, &[b]);
+        }
     }
 }
 
 // What the test of a set answers.
 fn put_tested(rt: &impl Print, s: Set) {
-    match sets::test(s) {
-        Tested::States(n) => put_number(rt, b" states ", n as u64),
-        Tested::Refused(f) => put_refusal(rt, f),
-    }
+    put_answer(rt, b" states ", sets::test(s));
     put(rt, b"\n");
 }
 
@@ -51,10 +40,10 @@ fn show(rt: &impl Print, label: &[u8], s: Set) {
 }
 
 fn show_list(rt: &impl Print, list: u16) {
-    put_number(rt, b"list ", list as u64);
-    put_number(rt, b": shortest ", lists::shortest(list) as u64);
-    put_number(rt, b" longest ", lists::longest(list) as u64);
-    put_number(rt, b" length ", lists::length(list) as u64);
+    put_number(rt, b"list ", list);
+    put_number(rt, b": shortest ", lists::shortest(list));
+    put_number(rt, b" longest ", lists::longest(list));
+    put_number(rt, b" length ", lists::length(list));
     put(rt, b" values");
     put_values(rt, list);
     put(rt, b"\n");
@@ -62,20 +51,15 @@ fn show_list(rt: &impl Print, list: u16) {
 
 fn show_locals(rt: &impl Print, label: &[u8], t: Task) {
     put(rt, label);
-    put_number(rt, b": locals ", sets::locals(t) as u64);
+    put_number(rt, b": locals ", sets::locals(t));
     put(rt, b"\n");
 }
 
 fn show_name(rt: &impl Print, label: &[u8], name: [u8; 16]) {
     put(rt, b"name ");
     put(rt, label);
-    put_number(rt, b": length ", sets::name_length(name) as u64);
-    put_tested(rt, named(name, one(hard(1, V1, V1))));
-}
-
-fn four(t: Task) -> Set {
-    let z = blank();
-    set(4, [t, t, t, t, z, z, z])
+    put_number(rt, b": length ", sets::name_length(name));
+    put_tested(rt, named(name, case_of([hard(1, V1, V1)])));
 }
 
 // One task, and a record 7.
@@ -116,17 +100,17 @@ fn locals_cases(rt: &impl Print) {
 }
 
 fn record_cases(rt: &impl Print) {
-    show(rt, b"kind 0", one(task(0, 1, V1, V1)));
-    show(rt, b"kind 1", one(task(1, 1, V1, V1)));
-    show(rt, b"kind 2", one(task(2, 1, V1, V1)));
-    show(rt, b"kind 255", one(task(255, 1, V1, V1)));
-    show(rt, b"deadline 0", one(hard(0, V1, V16)));
-    show(rt, b"deadline 1", one(hard(1, V1, V16)));
-    show(rt, b"deadline 16", one(hard(16, V1, V16)));
-    show(rt, b"deadline 17", one(hard(17, V1, V16)));
-    show(rt, b"deadline 255", one(hard(255, V1, V16)));
-    show(rt, b"no run times", one(hard(1, 0, V1)));
-    show(rt, b"no gaps", one(hard(1, V1, 0)));
+    show(rt, b"kind 0", case_of([task(0, 1, V1, V1)]));
+    show(rt, b"kind 1", case_of([task(1, 1, V1, V1)]));
+    show(rt, b"kind 2", case_of([task(2, 1, V1, V1)]));
+    show(rt, b"kind 255", case_of([task(255, 1, V1, V1)]));
+    show(rt, b"deadline 0", case_of([hard(0, V1, V16)]));
+    show(rt, b"deadline 1", case_of([hard(1, V1, V16)]));
+    show(rt, b"deadline 16", case_of([hard(16, V1, V16)]));
+    show(rt, b"deadline 17", case_of([hard(17, V1, V16)]));
+    show(rt, b"deadline 255", case_of([hard(255, V1, V16)]));
+    show(rt, b"no run times", case_of([hard(1, 0, V1)]));
+    show(rt, b"no gaps", case_of([hard(1, V1, 0)]));
 }
 
 fn count_cases(rt: &impl Print) {
@@ -138,12 +122,12 @@ fn count_cases(rt: &impl Print) {
 }
 
 fn rule_cases(rt: &impl Print) {
-    show(rt, b"hard 3 3 3", one(hard(3, V3, V3)));
-    show(rt, b"soft 2 1,2 3,4", one(soft(2, V1 + V2, V3 + V4)));
-    show(rt, b"hard 2 3 3", one(hard(2, V3, V3)));
-    show(rt, b"soft 2 1,3 3", one(soft(2, V1 + V3, V3)));
-    show(rt, b"hard 2 1 1", one(hard(2, V1, V1)));
-    show(rt, b"soft 2 1 1,4", one(soft(2, V1, V1 + V4)));
+    show(rt, b"hard 3 3 3", case_of([hard(3, V3, V3)]));
+    show(rt, b"soft 2 1,2 3,4", case_of([soft(2, V1 + V2, V3 + V4)]));
+    show(rt, b"hard 2 3 3", case_of([hard(2, V3, V3)]));
+    show(rt, b"soft 2 1,3 3", case_of([soft(2, V1 + V3, V3)]));
+    show(rt, b"hard 2 1 1", case_of([hard(2, V1, V1)]));
+    show(rt, b"soft 2 1 1,4", case_of([soft(2, V1, V1 + V4)]));
 }
 
 // Records that are refused with 3, 4 and 5, and one that is taken.
@@ -152,14 +136,14 @@ fn order_cases(rt: &impl Print) {
     let long = hard(2, V3, V3);
     let early = hard(2, V1, V1);
     let good = hard(2, V1, V3);
-    show(rt, b"kind 2 and 2 3 1", one(task(2, 2, V3, V1)));
-    show(rt, b"hard 2 3 1", one(hard(2, V3, V1)));
-    show(rt, b"5 in task 1, 4 in task 2", two(early, long));
-    show(rt, b"5 in task 1, 3 in task 2", two(early, bad));
-    show(rt, b"4 in task 1, 3 in task 2", two(long, bad));
-    show(rt, b"4 in task 2", two(good, long));
-    show(rt, b"5 in task 3", three(good, good, early));
-    show(rt, b"4 in task 1, no name", named([0; 16], one(long)));
+    show(rt, b"kind 2 and 2 3 1", case_of([task(2, 2, V3, V1)]));
+    show(rt, b"hard 2 3 1", case_of([hard(2, V3, V1)]));
+    show(rt, b"5 in task 1, 4 in task 2", case_of([early, long]));
+    show(rt, b"5 in task 1, 3 in task 2", case_of([early, bad]));
+    show(rt, b"4 in task 1, 3 in task 2", case_of([long, bad]));
+    show(rt, b"4 in task 2", case_of([good, long]));
+    show(rt, b"5 in task 3", case_of([good, good, early]));
+    show(rt, b"4 in task 1, no name", named([0; 16], case_of([long])));
     show(rt, b"4 in task 1, count 8", all(8, long));
     show(rt, b"4 in task 1, count 0", all(0, long));
 }
@@ -180,7 +164,7 @@ fn beyond_cases(rt: &impl Print) {
     show(rt, b"record 7 with a gap", beside(good, task(0, 0, 0, V16)));
     show(rt, b"count 1 of seven", all(1, good));
     show(rt, b"count 6 of seven", all(6, good));
-    show(rt, b"record 2 of two is zero", two(good, blank()));
+    show(rt, b"record 2 of two is zero", case_of([good, blank()]));
     show(
         rt,
         b"4 in task 1, record 7 not zero",
@@ -198,36 +182,40 @@ fn state_cases(rt: &impl Print) {
     show(
         rt,
         b"two of hard 2 1 2",
-        two(hard(2, V1, V2), hard(2, V1, V2)),
+        case_of([hard(2, V1, V2), hard(2, V1, V2)]),
     );
     show(
         rt,
         b"hard 2 1 3, soft 2 1,2 3",
-        two(hard(2, V1, V3), soft(2, V1 + V2, V3)),
+        case_of([hard(2, V1, V3), soft(2, V1 + V2, V3)]),
     );
     show(
         rt,
         b"14,16 and 1,5 and 4,5",
-        three(hard(14, V14, V16), hard(1, V1, V5), hard(4, V4, V5)),
+        case_of([hard(14, V14, V16), hard(1, V1, V5), hard(4, V4, V5)]),
     );
     show(
         rt,
         b"4,7 and 4,7 and 6,7",
-        three(hard(4, V4, V7), hard(4, V4, V7), hard(6, V6, V7)),
+        case_of([hard(4, V4, V7), hard(4, V4, V7), hard(6, V6, V7)]),
     );
-    show(rt, b"16,16 and 13,16", two(large, hard(13, V13, V16)));
+    show(rt, b"16,16 and 13,16", case_of([large, hard(13, V13, V16)]));
     show(
         rt,
         b"two of hard 15 15 16",
-        two(hard(15, V15, V16), hard(15, V15, V16)),
+        case_of([hard(15, V15, V16), hard(15, V15, V16)]),
     );
-    show(rt, b"four of hard 15 15 16", four(hard(15, V15, V16)));
+    show(
+        rt,
+        b"four of hard 15 15 16",
+        case_of([hard(15, V15, V16); 4]),
+    );
     show(rt, b"seven of hard 16 16 16", all(7, large));
     show(rt, b"count 4 of seven of hard 16 16 16", all(4, large));
     show(
         rt,
         b"two of hard 16 16 16, 5 in task 3",
-        three(large, large, hard(2, V1, V1)),
+        case_of([large, large, hard(2, V1, V1)]),
     );
     show(
         rt,

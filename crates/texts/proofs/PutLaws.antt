@@ -2,12 +2,14 @@
 use mathlib.Core.Path.{◌≡◌, refl, sym, ap, ◌∙◌, subst}
 use mathlib.Core.Logic.{⊎_elim}
 use mathlib.Core.List.{List, [], ◌∷◌, ◌++◌}
-use Prim.Native.Nat.{ℕ, suc, ◌+◌, ◌≤◌}
+use Prim.Native.Nat.{ℕ, suc, ◌+◌, ◌≤◌, ◌<◌}
+use native.Mathlib.Numerals.{add-one}
 use native.Mathlib.Omega.{arith}
-use lib.ListN.{length, take, drop, set, length-append, length-set}
-use lib.Seq.{sets, sets-eq, set_out, length-sets, take_at}
+use lib.ListN.{length, get_or, take, drop, set, length-append, length-set}
+use lib.Seq.{take-suc, sets, sets-eq, set_out, length-sets, take_at}
 use Rattle.arena.proofs.Tests.{lt_or_le}
-use Rattle.texts.specs.Puts.{Puts}
+use Rattle.texts.specs.declared.Page.{Page}
+use Rattle.texts.specs.Puts.{Puts, Adds}
 
 sets_append : (p : List ℕ) (i : ℕ) (x y : List ℕ) → sets p i (x ++ y) ≡ sets (sets p i x) (i + length x) y
 sets_append p i [] y = ap (λ n. sets p n y) (omega arith)
@@ -43,6 +45,10 @@ puts_then {p} {q} {r} {x} {y} {i} {j} {k} a b =
 pub puts_as : {p q x y : List ℕ} {i j : ℕ} → Puts p q i j x → x ≡ y → Puts p q i j y
 puts_as {p} {q} {x} {y} {i} {j} a e = subst (Puts p q i j) e a
 
+-- the bytes under another name
+pub puts_in : {p q r text : List ℕ} {i j : ℕ} → Puts p q i j text → r ≡ q → Puts p r i j text
+puts_in {p} {text = text} {i = i} {j = j} a e = subst (λ (l : List ℕ). Puts p l i j text) (sym e) a
+
 -- a text that fits, put from the first byte on: those beyond it stay
 pub puts_whole : {p q text : List ℕ} {n : ℕ} → Puts p q 0 n text → length text ≤ length p → (n ≡ length text) × (q ≡ text ++ drop (length text) p)
 puts_whole {p} {q} {text} {n} k h =
@@ -53,3 +59,17 @@ pub puts_take : {p q text : List ℕ} {n : ℕ} → Puts p q 0 n text → length
 puts_take {p} {q} {text} {n} k h =
     let w = puts_whole k h in
     ap (take n) w.1 ∙ take_at text (drop (length text) p) n (sym w.0)
+
+-- pages after one another
+pub adds_none : (p : Page) → Adds p p []
+adds_none p = record { same = refl; puts = puts_none p.buf.now p.at }
+
+pub adds_then : {p q r : Page} {x y : List ℕ} → Adds p q x → Adds q r y → Adds p r (x ++ y)
+adds_then a b = record { same = b.same ∙ a.same; puts = puts_then a.puts b.puts }
+
+pub adds_as : {p q : Page} {x y : List ℕ} → Adds p q x → x ≡ y → Adds p q y
+adds_as {p} {q} a e = subst (Adds p q) e a
+
+-- one byte more of a word
+pub adds_more : {p q r : Page} (word : List ℕ) (k : ℕ) → k < length word → Adds p q (take k word) → Adds q r (get_or word k 0 ∷ []) → Adds p r (take (k + 1) word)
+adds_more word k h a b = adds_as (adds_then a b) (rw (add-one, take-suc word k 0 h) refl)

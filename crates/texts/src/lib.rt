@@ -3,38 +3,42 @@
 
 ghost use Rattle.std.specs.Prelude.{[], ◌∷◌, take};
 ghost use Rattle.tasks.specs.Sets.{characters};
-ghost use Rattle.texts.specs.Puts.{Puts};
+ghost use Rattle.texts.specs.Puts.{Adds};
 
 use tasks::sets;
 
-// One byte.
-pub fn put(buf: &mut [u8], at: usize, b: u8) -> usize
-    ensures { Puts buf.old buf.new at result (b ∷ []) }
-{
-    if at < buf.len() {
-        buf[at] = b;
-        return at + 1;
-    }
-    at
+// A lent buffer, and the place from which the next text goes into it.
+#[derive(Drop)]
+pub struct Page<'a> {
+    pub buf: &'a mut [u8],
+    pub at: usize,
 }
 
-// A word.
-pub fn put_word(buf: &mut [u8], at: usize, word: &[u8]) -> usize
-    ensures { Puts buf.old buf.new at result word.now }
-{
-    let mut j = at;
-    let mut i = 0;
-    while i < word.len() {
-        j = put(buf, j, word[i]);
-        i += 1;
+impl<'a> Page<'a> {
+    // One byte.
+    pub fn put(&mut self, b: u8)
+        ensures { Adds self.old self.new (b ∷ []) }
+    {
+        if self.at < self.buf.len() {
+            self.buf[self.at] = b;
+            self.at += 1;
+        }
     }
-    j
-}
 
-// The characters of a set's name.
-pub fn put_name(buf: &mut [u8], at: usize, name: [u8; 16]) -> usize
-    ensures { Puts buf.old buf.new at result (take (characters name) name) }
-{
-    let n = sets::name_length(name);
-    put_word(buf, at, &name[..n])
+    // A word.
+    pub fn put_word(&mut self, word: &[u8])
+        ensures { Adds self.old self.new word.now }
+    {
+        for b in word {
+            self.put(*b);
+        }
+    }
+
+    // The characters of a set's name.
+    pub fn put_name(&mut self, name: [u8; 16])
+        ensures { Adds self.old self.new (take (characters name) name) }
+    {
+        let n = sets::name_length(name);
+        self.put_word(&name[..n]);
+    }
 }

@@ -1,31 +1,32 @@
 -- The two lines, and the rows where S is at most 64.
-use mathlib.Core.Path.{◌≡◌, sym, ap, ◌∙◌}
-use native.Mathlib.Omega.{arith}
-use lib.ListN.{length, take}
+use Rattle.std.proofs.Common.{◌≡◌, sym, ap, ◌∙◌, arith, rules, length, take}
 use Rattle.tasks.specs.Sets.{states_of}
 use Rattle.shield.specs.Shield.{shield_table}
-use Rattle.texts.proofs.PutLaws.{puts_then, puts_as}
+use Rattle.texts.proofs.PutLaws.{puts_in, adds_then, adds_as}
 use Rattle.report_lines.specs.Lines.{set_line}
 use Rattle.reporter.proofs.Reports.{table_length, rows_left_out, rows_shown}
 use Rattle.reporter.proofs.put_done.Goals as goal
-use Rattle.reporter.proofs.put_done.Goals.{Else-n-gt64}
+use Rattle.reporter.proofs.put_done.Goals.{Else-v-gt64}
 
-pub returns-then-n-gt64 : goal.returns-then-n-gt64
-returns-then-n-gt64 c =
-    let s = c.args.set in
-    let a = puts_as c.put_set_line-a.ensures (ap (set_line s) c.states-n.ensures) in
-    puts_as (puts_then a c.put_shield_line-b.ensures) (rows_left_out (states_of s) (shield_table s) _ (omega (arith, c.states-n.ensures, c.if-n-gt64.true)))
+pub returns-then-v-gt64 : goal.returns-then-v-gt64
+returns-then-v-gt64 c =
+    let v = c.args.v in
+    let a = adds_as c.put_set_line.ensures (ap (set_line v.set) v.counted) in
+    let k = adds_as (adds_then a c.put_shield_line.ensures) (rows_left_out (states_of v.set) (shield_table v.set) _ (omega (arith, v.counted, c.if-v-gt64.true))) in
+    puts_in k.puts (search (rules, k.same))
 
 -- the table's first S bytes
-first_entries : (d : Else-n-gt64) → take d.states-n.result d.args.table.now ≡ shield_table d.args.set
-first_entries d = ap (λ n. take n d.args.table.now) d.states-n.ensures ∙ d.requires.1
+first_entries : (d : Else-v-gt64) → take d.args.v.states d.args.table.now ≡ shield_table d.args.v.set
+first_entries d = ap (λ n. take n d.args.table.now) d.args.v.counted ∙ d.requires
 
 pub slice_bounds-put_rows-end : goal.slice_bounds-put_rows-end
-slice_bounds-put_rows-end c = c.states-n.ensures ∙ sym (ap length (first_entries (goal.at.slice_bounds-put_rows-end c).Else-n-gt64) ∙ table_length c.args.set)
+slice_bounds-put_rows-end c =
+    c.args.v.counted ∙ sym (ap length (first_entries (goal.at.slice_bounds-put_rows-end c).Else-v-gt64) ∙ table_length c.args.v.set)
 
 pub returns : goal.returns
 returns c =
-    let s = c.args.set in
-    let a = puts_as c.put_set_line-a.ensures (ap (set_line s) c.states-n.ensures) in
-    let x = rows_shown (states_of s) (shield_table s) _ (omega (arith, c.states-n.ensures, c.if-n-gt64.false)) (table_length s) (first_entries (goal.at.returns c).Else-n-gt64) in
-    puts_then (puts_then a c.put_shield_line-b.ensures) (puts_as c.put_rows.ensures x)
+    let v = c.args.v in
+    let a = adds_as c.put_set_line.ensures (ap (set_line v.set) v.counted) in
+    let x = rows_shown (states_of v.set) (shield_table v.set) _ (omega (arith, v.counted, c.if-v-gt64.false)) (table_length v.set) (first_entries (goal.at.returns c).Else-v-gt64) in
+    let k = adds_then (adds_then a c.put_shield_line.ensures) (adds_as c.put_rows.ensures x) in
+    puts_in k.puts (search (rules, k.same))

@@ -1,10 +1,6 @@
 -- The bytes before i are a beginning of some sheet, s is what is kept of them, and name, count and tasks are the set that they say.
-use Rattle.std.proofs.Common.{◌-◌, length}
-use Rattle.sheet_scan.proofs.Scans.{Past}
+use Rattle.sheet_scan.proofs.Scans.{SoFar}
 use Rattle.sheet_scan.proofs.scan.Given as goal
 
 abbrev pub invariant-loop-i : goal.invariant-loop-i
-invariant-loop-i l = Past l.text l.at l.s (record { name = l.name; count = l.s.count; tasks = l.tasks }) l.i
-
-abbrev pub decreases-loop-i : goal.decreases-loop-i
-decreases-loop-i l = length l.text - l.i
+invariant-loop-i l = SoFar l.rest l.s (record { name = l.name; count = l.s.count; tasks = l.tasks }) l.i

@@ -1,10 +1,7 @@
--- The sum of the bytes before i.
-use Rattle.std.proofs.Common.{◌≡◌, ◌-◌, ◌<◌, ◌≤◌, length, drop}
+-- The sum of the bytes before the index.
+use Rattle.std.proofs.Common.{◌≡◌, ◌<◌, drop}
 use Rattle.desk_buffers.specs.Bytes.{modulus, adler_from}
 use Rattle.desk_buffers.proofs.bytes.adler.Given as goal
 
-abbrev pub invariant-loop-i : goal.invariant-loop-i
-invariant-loop-i l = (l.i ≤ length l.buf) × (l.a < modulus) × (l.b < modulus) × (adler_from l.a l.b (drop l.i l.buf) ≡ adler_from 1 0 l.buf)
-
-abbrev pub decreases-loop-i : goal.decreases-loop-i
-decreases-loop-i l = length l.buf - l.i
+abbrev pub invariant-loop-x : goal.invariant-loop-x
+invariant-loop-x l = (l.a < modulus) × (l.b < modulus) × (adler_from l.a l.b (drop l.x-index l.buf) ≡ adler_from 1 0 l.buf)

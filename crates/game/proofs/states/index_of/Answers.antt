@@ -1,23 +1,20 @@
 -- The index of the first k tasks' states.
-use mathlib.Core.Path.{◌≡◌, refl, ap, ◌∙◌}
-use Prim.Native.Nat.{◌+◌, ◌*◌, ◌^◌, ◌<◌}
-use native.Mathlib.Omega.{arith}
+use Rattle.std.proofs.Common.{refl, ◌∙◌, ◌+◌, ◌*◌, ◌^◌, ◌<◌, arith}
+use native.Mathlib.Nat.{add_comm, mul_comm}
 use Rattle.tasks.specs.Sets.{states_to}
 use Rattle.tasks.proofs.SetLaws.{states_step, bound_step, bound_top}
-use Rattle.tasks.proofs.Valid.{passed_valid}
 use Rattle.game.specs.States.{index_to}
-use Rattle.game.proofs.StateLaws.{index_step, index_bound, index_top}
+use Rattle.game.proofs.StateLaws.{count_le, index_step, index_bound, index_top}
 use Rattle.game.proofs.states.index_of.Goals as goal
-use Rattle.game.proofs.states.index_of.Goals.{After-locals-n}
+use Rattle.game.proofs.states.index_of.Goals.{After-local_number}
 
 pub loop-k-init : goal.loop-k-init
 unfolding states_to index_to
-loop-k-init c = (omega arith, (passed_valid c.args.s c.requires).count.1, refl, omega arith, refl, omega arith)
+loop-k-init c = record { weight = refl; light = omega arith; at = refl; low = omega arith }
 
-top : (c : After-locals-n) → let l = c.loop-k in c.local_number-local.result * l.weight + l.at < 2 ^ 64
+top : (c : After-local_number) → let l = c.loop-k in c.local_number.result * l.weight + l.at < 2 ^ 64
 top c = let l = c.loop-k in
-    let x = c.local_number-local in
-    index_top l.k l.at l.weight x.result (omega arith) l.invariant.5 l.invariant.3 x.ensures.small
+    index_top l.k l.at l.weight c.local_number.result (omega (arith, count_le c.args.s c.requires)) l.invariant.low l.invariant.light c.local_number.ensures.small
 
 pub overflow_mul-at : goal.overflow_mul-at
 overflow_mul-at c = omega (arith, top c)
@@ -27,23 +24,16 @@ overflow_add-at c = omega (arith, top c)
 
 pub overflow_mul-weight : goal.overflow_mul-weight
 overflow_mul-weight c = let l = c.loop-k in
-    record { fits = omega (arith, bound_top (l.k + 1) _ (bound_step l.k l.weight c.locals-n.result l.invariant.3 c.locals-n.ensures.small) (omega arith)) }
+    record { fits = omega (arith, count_le c.args.s c.requires, bound_top (l.k + 1) _ (bound_step l.k l.weight c.locals.result l.invariant.light c.locals.ensures.small) (omega (arith, count_le c.args.s c.requires))) }
 
 pub loop-k-preserved : goal.loop-k-preserved
 loop-k-preserved c = let l = c.loop-k in
     let a = c.args in
-    let x = c.local_number-local in
-    let n = c.locals-n in (
-      omega arith,
-      l.invariant.1,
-      states_step a.s l.k l.weight n.result l.invariant.2 n.ensures.value,
-      bound_step l.k l.weight n.result l.invariant.3 n.ensures.small,
-      index_step a.s a.xs l.k l.at l.weight x.result l.invariant.4 l.invariant.2 x.ensures.value,
-      index_bound l.k l.at l.weight x.result l.invariant.5 l.invariant.3 x.ensures.small,
-    )
-
-pub returns : goal.returns
-returns c = let l = c.loop-k in
-    let a = c.args in
-    let e : l.k ≡ a.s.count = omega arith in
-    l.invariant.4 ∙ ap (index_to a.s a.xs) e
+    let x = c.local_number in
+    let n = c.locals in
+    record {
+      weight = mul_comm l.weight n.result ∙ states_step a.s l.k l.weight n.result l.invariant.weight n.ensures.value;
+      light = omega (arith, bound_step l.k l.weight n.result l.invariant.light n.ensures.small);
+      at = add_comm l.at _ ∙ index_step a.s a.xs l.k l.at l.weight x.result l.invariant.at l.invariant.weight x.ensures.value;
+      low = omega (arith, index_bound l.k l.at l.weight x.result l.invariant.low l.invariant.light x.ensures.small);
+    }

@@ -1,12 +1,9 @@
--- The set's own test first.
-use mathlib.Core.Path.{sym, ◌∙◌}
-use Rattle.tasks.proofs.Valid.{passed_states}
+-- A set refused by its own test.
+use Rattle.std.proofs.lemmas.Result.{err_from_is_err_and}
 use Rattle.shield.proofs.BuildLaws.{built_refused}
 use Rattle.shield.proofs.builder.build.Goals as goal
 
-pub build_passed-requires : goal.build_passed-requires
-build_passed-requires c = passed_states _ _ (sym c.test-tested.ensures ∙ c.in-States.is)
-
-pub returns-in-Refused : goal.returns-in-Refused
-returns-in-Refused c = let a = c.args in
-    built_refused a.s a.table.now a.work.now _ (sym c.test-tested.ensures ∙ c.in-Refused.is)
+pub returns-in_err-v : goal.returns-in_err-v
+returns-in_err-v c = let a = c.args in
+    let p = err_from_is_err_and c.from_residual.result c.from_residual.ensures.1 in
+    rw (p.1, p.2) (built_refused a.s a.table.now a.work.now _ c.in_err-v.ensures.err)

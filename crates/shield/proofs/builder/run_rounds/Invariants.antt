@@ -19,7 +19,7 @@ pub record Kept (s : Set) (t w : List ℕ) (n : ℕ) (t' w' : List ℕ) (k r : �
   pub start : T (Arena.left (arena_of s) r 0)
 
 abbrev pub invariant-loop-table : goal.invariant-loop-table
-invariant-loop-table l = Kept l.s l.initial.table l.initial.work l.n l.table l.work l.left l.rounds
+invariant-loop-table l = Kept l.v.set l.initial.table l.initial.work l.v.states l.table l.work l.left l.rounds
 
 abbrev pub decreases-loop-table : goal.decreases-loop-table
 decreases-loop-table l = l.left

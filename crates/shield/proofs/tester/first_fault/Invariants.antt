@@ -1,12 +1,8 @@
 -- No entry before i is faulty.
-use mathlib.Core.Path.{◌≡◌}
-use Prim.Native.Nat.{◌-◌, ◌≤◌}
+use Rattle.std.proofs.Common.{◌≡◌, ◌-◌}
 use Rattle.arena.specs.Tests.{first}
 use Rattle.shield.specs.Test.{faulty}
 use Rattle.shield.proofs.tester.first_fault.Given as goal
 
 abbrev pub invariant-loop-i : goal.invariant-loop-i
-invariant-loop-i l = (l.i ≤ l.n) × (first (faulty l.s l.table) l.n 0 ≡ first (faulty l.s l.table) (l.n - l.i) l.i)
-
-abbrev pub decreases-loop-i : goal.decreases-loop-i
-decreases-loop-i l = l.n - l.i
+invariant-loop-i l = first (faulty l.v.set l.table) l.v.states 0 ≡ first (faulty l.v.set l.table) (l.v.states - l.i) l.i

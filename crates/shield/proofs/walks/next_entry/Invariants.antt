@@ -1,13 +1,9 @@
 -- The choices before this one that the entry names and that are fine.
-use mathlib.Core.Bool.{◌&&◌}
-use mathlib.Core.Path.{◌≡◌}
-use Prim.Native.Nat.{◌-◌, ◌≤◌}
-use Rattle.shield.specs.Entries.{names, marks}
-use Rattle.shield.specs.Shield.{fine_in}
+use Rattle.std.proofs.Common.{◌≡◌, ◌&&◌}
+use Rattle.arena.specs.Arena.{fine}
+use Rattle.game.specs.Game.{arena_of}
+use Rattle.shield.specs.Entries.{names, marks, entry_at, live}
 use Rattle.shield.proofs.walks.next_entry.Given as goal
 
 abbrev pub invariant-loop-choice : goal.invariant-loop-choice
-invariant-loop-choice l = (l.choice ≤ 8) × (l.entry ≡ marks l.choice (λ c. names l.old c && fine_in l.s l.d l.table c))
-
-abbrev pub decreases-loop-choice : goal.decreases-loop-choice
-decreases-loop-choice l = 8 - l.choice
+invariant-loop-choice l = l.entry ≡ marks l.choice (λ c. names (entry_at l.table l.i) c && fine (arena_of l.v.set) (live l.table) l.i c)

@@ -6,5 +6,5 @@ use Rattle.table_file.proofs.writer.put_file.Goals as goal
 
 pub returns : goal.returns
 returns c =
-    let name : length c.args.s.name ≡ 16 = search rules in
-    stored c.args.s c.args.table.now c.args.file.now _ _ _ c.args.n (header_length_lem c.args.s name) c.header_length-head.ensures c.requires.1 c.put_header.ensures c.copy_from_slice.ensures.after
+    let name : length c.args.v.set.name ≡ 16 = search rules in
+    stored c.args.v.set c.args.table.now c.args.file.now _ _ _ c.args.v.states (header_length_lem c.args.v.set name) c.header_length-head.ensures c.args.v.counted c.put_header.ensures c.copy_from_slice.ensures.after

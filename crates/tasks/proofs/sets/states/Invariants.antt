@@ -1,11 +1,7 @@
--- The states of the first i tasks.
-use mathlib.Core.Path.{◌≡◌}
-use Prim.Native.Nat.{◌-◌, ◌^◌, ◌≤◌}
+-- The states of the tasks before t.
+use Rattle.std.specs.Prelude.{◌≡◌, ◌^◌, ◌≤◌}
 use Rattle.tasks.specs.Sets.{states_to}
 use Rattle.tasks.proofs.sets.states.Given as goal
 
-abbrev pub invariant-loop-i : goal.invariant-loop-i
-invariant-loop-i l = (l.i ≤ l.s.count) × (l.n ≡ states_to l.s l.i) × (l.n ≤ 272 ^ l.i)
-
-abbrev pub decreases-loop-i : goal.decreases-loop-i
-decreases-loop-i l = l.s.count - l.i
+abbrev pub invariant-loop-t : goal.invariant-loop-t
+invariant-loop-t l = (l.n ≡ states_to l.fn.s l.t-index) × (l.n ≤ 272 ^ l.t-index)
