@@ -20,8 +20,8 @@ fn of_asked(a: Answered<u8>) -> u32 {
 
 // One place of the run, another each time.
 fn of_run(r: Run, j: u16) -> u32 {
-    let x = r.states[(j % 7) as usize];
-    let n = r.counts[(j % 7) as usize];
+    let x = r.states[usize::from(j % 7)];
+    let n = r.counts[usize::from(j % 7)];
     sum(sum(r.ticks, u32::from(x.age)), sum(n.arrived, n.finished))
 }
 

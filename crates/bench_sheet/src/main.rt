@@ -8,8 +8,8 @@ use tasks::sets::Set;
 
 // One record of a set, another each time, and a character of its name.
 fn of_set(s: Set, i: u16) -> u32 {
-    let t = s.tasks[(i % 7) as usize];
-    let b = s.name[(i % 16) as usize];
+    let t = s.tasks[usize::from(i % 7)];
+    let b = s.name[usize::from(i % 16)];
     let head = sum(u32::from(s.count), u32::from(b));
     let lists = sum(u32::from(t.runs), u32::from(t.gaps));
     sum(head, sum(u32::from(t.deadline), lists))

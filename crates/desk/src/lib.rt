@@ -16,6 +16,7 @@ use commands::lines::Command;
 use desk_buffers::{Buffers, say};
 use guard::runs;
 use guard::runs::Run;
+use std::fmt::Display;
 use tasks::refusals::Refusal;
 use tasks::sets;
 use tasks::sets::Set;
@@ -65,6 +66,14 @@ pub fn fresh<'a>(
 fn answer(rt: &impl Print, answer: Result<(), Refusal>) {
     match answer {
         Ok(()) => say::ok(rt),
+        Err(f) => say::refused(rt, f.number(), f.place),
+    }
+}
+
+// The number that a call answers, after a word, or its refusal.
+fn number<T: Copy + Display>(rt: &impl Print, before: &[u8], answer: Result<T, Refusal>) {
+    match answer {
+        Ok(n) => say::last(rt, before, n),
         Err(f) => say::refused(rt, f.number(), f.place),
     }
 }

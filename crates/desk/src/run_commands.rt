@@ -27,10 +27,7 @@ fn ask(rt: &impl Print, s: Set, table: &[u8], r: Run, proposal: u8) -> Run
     ensures { result ≡ (ask_of s table.now r proposal).run }
 {
     let asked = asks::ask(s, table, r, proposal);
-    match asked.answer {
-        Ok(c) => say::last(rt, b"choice ", c),
-        Err(f) => say::refused(rt, f.number(), f.place),
-    }
+    crate::number(rt, b"choice ", asked.answer);
     asked.run
 }
 

@@ -42,7 +42,7 @@ fn with_count(n: Counts, kind: usize, v: u32) -> Counts
     }
 }
 
-// The run with a field of task i's place set.
+// The run with a field of task i's place set. No one function with `set_fields::with_task`: that sets a record of a set.
 #[tactic(auto, unfolding(crate::specs::Fields::place_set))]
 fn with_place(r: Run, kind: usize, i: u32, v: u32) -> Run
     ensures { result ≡ place_set kind i v r }

@@ -68,10 +68,7 @@ fn show(rt: &impl Print, s: Set) {
 }
 
 fn test(rt: &impl Print, s: Set) {
-    match sets::test(s) {
-        Ok(n) => say::last(rt, b"states ", n),
-        Err(f) => say::refused(rt, f.number(), f.place),
-    }
+    crate::number(rt, b"states ", sets::test(s));
 }
 
 // A command on the set, and the set after it; n is the length of the text.

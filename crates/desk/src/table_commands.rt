@@ -39,10 +39,7 @@ fn test(rt: &impl Print, s: Set, table: &[u8]) {
 fn write(rt: &impl Print, s: Set, table: &[u8], file: &mut [u8])
     ensures { file.new ≡ file_after s table.now file.old }
 {
-    match writer::write(s, table, file) {
-        Ok(n) => say::last(rt, b"file ", n),
-        Err(f) => say::refused(rt, f.number(), f.place),
-    }
+    crate::number(rt, b"file ", writer::write(s, table, file));
 }
 
 // The part that an opened file hands back becomes the table, whose new length is answered.

@@ -33,6 +33,7 @@ pub fn mangled(rt: &impl Print, line: u64) {
     last(rt, b"? ", line);
 }
 
+// Number and place, and no `Refusal`: so this room rests on no room of sets.
 pub fn refused(rt: &impl Print, number: u8, place: u32) {
     put_number(rt, b"refused ", number);
     last(rt, b" ", place);

@@ -37,7 +37,8 @@ fn slack_of(s: Set, xs: [TaskState; 7], k: usize) -> u8
     s.tasks[k].deadline.saturating_sub(xs[k].age)
 }
 
-// No plainer: no lemma of std makes of what `min_by_key` picks, step by step, the choice that the specs name.
+// No plainer: 0 is idle, which `better` of specs/ has where no task is allowed, and no lemma of std makes of what `min_by_key` picks,
+// step by step, the choice that it names.
 // The better of the choice so far, which is idle before any task, and task k + 1.
 #[tactic(auto, unfolding(crate::specs::Ask::better))]
 fn better_of(s: Set, xs: [TaskState; 7], entry: u8, best: usize, k: usize) -> usize

@@ -37,7 +37,7 @@ fn flags_at(o: Outcome, k: usize) -> Flags
     ensures { result ≡ flags_at o k }
 {
     Flags {
-        finishes: o.choice as usize == k + 1 && o.finished,
+        finishes: usize::from(o.choice) == k + 1 && o.finished,
         arrives: entries::allows(o.arrivals, k),
     }
 }
@@ -47,7 +47,7 @@ fn tick_at(t: Task, x: TaskState, o: Outcome, k: usize) -> Ticked
     requires { k < 7 }
     ensures { result ≡ tick_of t (o.choice == suc k) x (flags_at o k) }
 {
-    ticks::tick(t, o.choice as usize == k + 1, x, flags_at(o, k))
+    ticks::tick(t, usize::from(o.choice) == k + 1, x, flags_at(o, k))
 }
 
 // For each place, worked out once.
@@ -126,7 +126,7 @@ fn move_run(f: &Fitting, o: Outcome, ts: [Ticked; 7]) -> Run
     requires { (f.now.run.ticks < tick_limit) × (ts ≡ seven (tick_at f.now.v.set f.now.run.states o)) }
     ensures { result ≡ run_after f.now.v.set f.now.run o }
 {
-    let n = f.v.set.count as usize;
+    let n = usize::from(f.v.set.count);
     let r = f.run;
     Run {
         states: move_states(n, r.states, ts),
@@ -144,7 +144,7 @@ fn report_named(f: &Fitting, o: Outcome) -> Answered<()>
     requires { f.now.run.ticks < tick_limit }
     ensures { result ≡ report_named f.now.v.set f.now.run o }
 {
-    let n = f.v.set.count as usize;
+    let n = usize::from(f.v.set.count);
     if is_stray(&f.v, o) {
         return runs::refuse(f.run, Reason::ImpossibleOutcome, 0);
     }

@@ -115,7 +115,7 @@ pub fn start(s: Set, reading: u32) -> Answered<()>
         },
         Ok(_) => Answered {
             answer: Ok(()),
-            run: fresh_run(s.count as usize, reading),
+            run: fresh_run(usize::from(s.count), reading),
         },
     }
 }
@@ -152,7 +152,7 @@ fn place_fits(s: Set, r: Run, k: usize) -> bool
 {
     let x = r.states[k];
     let n = r.counts[k];
-    if k < s.count as usize {
+    if k < usize::from(s.count) {
         task_fits(s.tasks[k], r.ticks, x, n)
     } else {
         is_empty(x, n)

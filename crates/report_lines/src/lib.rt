@@ -20,7 +20,7 @@ fn put_number(page: &mut Page<'_>, n: u64)
 }
 
 // A word, and a number after it.
-// Callers widen it by `as`, and no `u64::from`: a `usize` has none, and all are written alike.
+// Callers widen it by `as`, and no `u64::from`: a `usize` has none, and for the others each answer would grow by an equation (tried).
 fn put_field(page: &mut Page<'_>, word: &[u8], n: u64)
     ensures { Adds page.old page.new (field word.now n) }
 {

@@ -1,4 +1,4 @@
-// The reader of sheets, over a text and a place of it; the struct of the two is `sheet::Reader`, over these functions.
+// The reader of sheets, over a text and a place of it, as docs/PROMISES.md has them; the struct of the two is `sheet::Reader`.
 #![tactic(auto)]
 
 ghost use Rattle.std.specs.Prelude.{◌≡◌, ◌+◌, length, drop};

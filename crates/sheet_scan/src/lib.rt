@@ -27,7 +27,7 @@ fn rest(text: &[u8], at: usize) -> &[u8]
     text.get(at..).unwrap_or(&[])
 }
 
-// The text from a place on, byte by byte.
+// The text from a place on, byte by byte. Text and place, and no struct: docs/PROMISES.md has `scan` of any two.
 pub fn scan(text: &[u8], at: usize) -> Scanned
     ensures { result ≡ scan_text (drop at text.now) }
 {

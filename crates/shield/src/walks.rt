@@ -14,6 +14,7 @@ use tasks::sets;
 use tasks::sets::ValidSet;
 
 // The table is lent with any length: that it has room is shown once, by `build_passed` and `test_passed`.
+// No plainer: a struct of table and set makes the clauses longer than the fact.
 // A state of a set: its index, and the local numbers of its tasks.
 #[derive(Clone, Copy)]
 struct State {
@@ -56,6 +57,7 @@ fn walk_on(state: &State, table: &[u8], choice: usize, k: usize, at: usize) -> b
 }
 
 // Whether a choice is legal in a state, with all outcomes no miss and on an entry that is not zero.
+// The count by `as`: of `usize::from` its answer does not close, since the walk's law speaks of the count itself.
 #[tactic(auto, using(game::proofs::StateLaws::count_le, crate::proofs::FineLaws::locals_lt))]
 fn is_fine(state: &State, table: &[u8], choice: usize) -> bool
     requires { states_of state.now.v.set ≤ length table.now }

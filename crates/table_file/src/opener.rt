@@ -70,7 +70,7 @@ pub fn verdict(s: Set, file: &[u8]) -> Result<(), Refusal>
     verdict_passed(ValidSet::of(s)?, file)
 }
 
-// The table part of a file that opens for a set; of any other, an empty part.
+// The table part of a file that opens for a set; of any other, an empty part, and no Result: docs/PROMISES.md has it so.
 pub fn open<'a>(s: Set, file: &'a [u8]) -> &'a [u8]
     ensures { result.now ≡ handed s file.now }
 {
