@@ -5,9 +5,10 @@ use mathlib.Core.Path.{◌≡◌, refl, sym, ◌∙◌}
 use Prim.Native.Nat.{ℕ, suc, ◌+◌, ◌<◌, ◌≤◌}
 use native.Mathlib.Numerals.{add-one}
 use native.Mathlib.Omega.{arith}
-use borrow.Author.Tests.{ltb-false}
+use borrow.Author.Tests.{ltb-false, eq-eqb, ne_eqb}
 use lib.Dec.{eqb, ltb}
-use lib.ListN.{length, take, drop}
+use lib.ListN.{length, take, drop, get_or, drop_of_length-le}
+use lib.Seq.{drop-cons}
 use Rattle.std.specs.Prelude.{Some, None, unwrap_or, position}
 use Rattle.std.specs.List.{position_or_len}
 use Rattle.commands.specs.Texts.{index_of, parts}
@@ -83,3 +84,17 @@ module _ (b : ℕ) where
       step : (t : Bool) → ltb (index_of b l) (length l) ≡ t → unwrap_or (cond t (Some (index_of b l)) None) (length l) ≡ index_of b l
       step true e = refl
       step false e = omega (arith, ltb-false _ _ e, index_inside l)
+
+-- the same from a place on, one place after the other
+module _ (b : ℕ) (l : List ℕ) (i : ℕ) where
+  pub index_here : i < length l → get_or l i 0 ≡ b → index_of b (drop i l) ≡ 0
+  unfolding index_of
+  index_here h e = rw (drop-cons l i 0 h) (simp (eq-eqb _ _ e))
+
+  pub index_next : i < length l → (get_or l i 0 ≡ b → ⊥) → i + index_of b (drop i l) ≡ i + 1 + index_of b (drop (i + 1) l)
+  unfolding index_of
+  index_next h n = rw (add-one, drop-cons l i 0 h) (simp (ne_eqb _ _ n) (omega arith))
+
+  pub index_end : length l ≤ i → index_of b (drop i l) ≡ 0
+  unfolding index_of
+  index_end h = rw (drop_of_length-le l {i = i} h)

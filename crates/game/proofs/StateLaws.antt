@@ -208,7 +208,7 @@ module _ (s : Set) where
         (λ j l. get_or-set_other d k j (rest % n) 0 (λ q. omega arith) ∙ all j l)
         (get_or-set_same d k (rest % n) 0 h ∙ ap₂ (λ (a b : ℕ). a % b) e m)
 
--- at most seven tasks, and at most 16 values in each of their lists
+-- at most seven tasks
 pub count_le : (s : Set) → Passed s → s.count ≤ 7
 count_le s p = (passed_valid s p).count.1
 

@@ -1,5 +1,5 @@
 -- Laws of the seven places, and of a run that fits. Assumes nothing.
-use Rattle.std.proofs.Common.{◌≡◌, ℕ, zero, suc, ◌+◌, ◌<◌, ◌≤◌, Bool, true, false, cond, not, ◌&&◌, T, eqb, ltb, leb, List, Option, Some, None, get_or, sym, refl, ap, ◌∙◌, subst, ap₂, ⊎_elim, arith, eqb→eq, ltb→lt, leb→le, le-ltb, lt-ltb, eq-eqb, le-leb}
+use Rattle.std.proofs.Common.{◌≡◌, ℕ, zero, suc, ◌+◌, ◌<◌, ◌≤◌, Bool, true, false, cond, not, ◌&&◌, T, eqb, ltb, leb, List, [], ◌∷◌, Option, Some, None, get_or, sym, refl, ap, ◌∙◌, subst, ap₂, ⊎_elim, arith, eqb→eq, ltb→lt, leb→le, le-ltb, lt-ltb, eq-eqb, le-leb}
 use Rattle.std.specs.Fn.{Called, Mut}
 use Rattle.std.specs.Iterator.{YieldsThen}
 use Rattle.std.specs.List.{FoldsTo, list_all, range_with_len}
@@ -22,6 +22,11 @@ use Rattle.game.proofs.StateLaws.{count_le, index_lt}
 use Rattle.guard.specs.declared.runs.Counts.{Counts}
 use Rattle.guard.specs.declared.runs.Run.{Run}
 use Rattle.guard.specs.Runs.{tick_limit, seven, counts_at, sum_holds, task_fits, place_empty, place_fits, awaited_fits, fits, Room, Small}
+
+-- seven values that are equal one by one
+pub all_seven : {A : Type 0} {a b c d e f g a' b' c' d' e' f' g' : A} → a ≡ a' → b ≡ b' → c ≡ c' → d ≡ d' → e ≡ e' → f ≡ f' → g ≡ g'
+    → ◌≡◌ {A = List A} (a ∷ b ∷ c ∷ d ∷ e ∷ f ∷ g ∷ []) (a' ∷ b' ∷ c' ∷ d' ∷ e' ∷ f' ∷ g' ∷ [])
+all_seven p q r s t u v = cc
 
 -- the value at a place of the seven
 pub seven_at : {A : Type 0} (d : A) (f : ℕ → A) (i : ℕ) → i < 7 → get_or (seven f) i d ≡ f i

@@ -26,6 +26,13 @@ digits_more : (k n : ℕ) → 10 ≤ n → digits_to (suc k) n ≡ digits_to k (
 unfolding digits_to
 digits_more k n h = ap (λ b. cond b ((48 + n) ∷ []) (digits_to k (n / 10) ++ ((48 + n % 10) ∷ []))) (le-ltb n 10 h)
 
+-- the ASCII code of a digit below 16: `0` to `9`, then `a` to `f`
+abbrev pub hex_digit_ascii : ℕ → ℕ
+hex_digit_ascii d = cond (ltb d 10) (48 + d) (87 + d)
+
+pub glyph_digit : (d : ℕ) → d < 10 → hex_digit_ascii d ≡ 48 + d
+glyph_digit d h = ap (λ b. cond b (48 + d) (87 + d)) (lt-ltb d 10 h)
+
 -- what the library writes for a number is its text, however many digits are allowed beyond those
 digits_decimal : (n : ℕ) → n < 2 ^ 64 → (k : ℕ) → n < k → digits_to k n ≡ decimal n
 digits_decimal = decimal_by_steps (λ n ds. (k : ℕ) → n < k → digits_to k n ≡ ds) one more

@@ -68,7 +68,6 @@ module _ (s : Set) (table : List ℕ) (r : Run) (p : ℕ) (P : Answered ℕ → 
           (λ d. given (record { set = passed s n e; fits = not_not (fits s r) f; free = a; more = b; within = nltb→le s.count p c; serves = d }))
           bad)))))
 
--- A REPORT WITH THE NEXT READING: 18, 19, or the run after it
 -- the lowest task whose tick is a miss, and that there is none
 pub record Misses (s : Set) (xs : List TaskState) (o : Outcome) (k : ℕ) : Type 0 where
   pub within : k < s.count
@@ -78,6 +77,7 @@ pub record Misses (s : Set) (xs : List TaskState) (o : Outcome) (k : ℕ) : Type
 abbrev pub NoMiss : Set → List TaskState → Outcome → Type 0
 NoMiss s xs o = (j : ℕ) → j < s.count → is_missed (tick_at s xs o j) ≡ false
 
+-- A REPORT WITH THE NEXT READING: 18, 19, or the run after it
 module _ (s : Set) (r : Run) (o : Outcome) (P : Answered (Unit {0}) → Type 0) where
   pub named_case : (T (impossible s r.states o) → P (refused r ImpossibleOutcome 0))
       → (T (not (impossible s r.states o)) → (k : ℕ) → Misses s r.states o k → P (refused r HardMiss (suc k)))

@@ -40,7 +40,7 @@ legal_awaited s r (Some d) c e t =
     let q : d ≡ c = cc in
     subst (λ (c : ℕ). T (legal_for s r.states c)) q (and_right (leb r.substitutions (r.ticks + 1)) _ (and_right (ltb r.ticks tick_limit) _ t))
 
--- a run that fits and is_some a report
+-- a run that fits and awaits a report
 module _ (s : Set) (q : Passed s) (r : Run) (fit : T (fits s r)) (c : ℕ) (e : r.awaited ≡ Some c) where
   w : Fits s r
   w = fits_at s r (count_le s q) fit
