@@ -8,7 +8,6 @@ ghost use Rattle.guard.specs.Ask.{serves_for, serves, slack, better, substitute_
 use crate::runs;
 use crate::runs::{Answered, Fitting, Run};
 use game::states;
-use game::states::TaskState;
 use shield::entries;
 use tasks::refusals::Reason;
 use tasks::sets::{Set, ValidSet};
@@ -17,8 +16,7 @@ use tasks::sets::{Set, ValidSet};
 fn names_legal(f: &Fitting, entry: u8) -> bool
     ensures { result ≡ all_below 8 (serves_for f.now.v.set f.now.run.states entry) }
 {
-    (0..8).all(|choice| !entries::allows(entry, choice)
-        || runs::is_legal(&f.v, f.run.states, choice))
+    (0..8).all(|choice| !entries::allows(entry, choice) || runs::is_legal(&f.v, &f.run, choice))
 }
 
 // Whether an entry is not 0, and names only idle and runnable tasks.
@@ -30,25 +28,25 @@ fn serves_state(f: &Fitting, entry: u8) -> bool
 }
 
 // D minus age of task k + 1, 0 past the deadline.
-fn slack_of(s: Set, xs: [TaskState; 7], k: usize) -> u8
+fn slack_of(f: &Fitting, k: usize) -> u8
     requires { k < 7 }
-    ensures { result ≡ slack s xs k }
+    ensures { result ≡ slack f.now.v.set f.now.run.states k }
 {
-    s.tasks[k].deadline.saturating_sub(xs[k].age)
+    f.v.set.tasks[k]
+        .deadline
+        .saturating_sub(f.run.states[k].age)
 }
 
 // No plainer: 0 is idle, which `better` of specs/ has where no task is allowed, and no lemma of std makes of what `min_by_key` picks,
 // step by step, the choice that it names.
 // The better of the choice so far, which is idle before any task, and task k + 1.
 #[tactic(auto, unfolding(crate::specs::Ask::better))]
-fn better_of(s: Set, xs: [TaskState; 7], entry: u8, best: usize, k: usize) -> usize
+fn better_of(f: &Fitting, entry: u8, best: usize, k: usize) -> usize
     requires { (best ≤ 7) × (k < 7) }
-    ensures value { result ≡ better s xs entry best k }
+    ensures value { result ≡ better f.now.v.set f.now.run.states entry best k }
     ensures small { result ≤ 7 }
 {
-    if entries::allows(entry, k + 1)
-        && (best == 0 || slack_of(s, xs, k) < slack_of(s, xs, best - 1))
-    {
+    if entries::allows(entry, k + 1) && (best == 0 || slack_of(f, k) < slack_of(f, best - 1)) {
         k + 1
     } else {
         best
@@ -63,7 +61,7 @@ fn substitute(f: &Fitting, entry: u8) -> usize
 {
     let mut best = 0;
     for k in 0..usize::from(f.v.set.count) {
-        best = better_of(f.v.set, f.run.states, entry, best, k);
+        best = better_of(f, entry, best, k);
     }
     best
 }
@@ -118,7 +116,7 @@ fn ask_fits(v: ValidSet, table: &[u8], r: Run, proposal: u8) -> Answered<u8>
     requires { v.states ≤ length table.now }
     ensures { result ≡ ask_fits v.set table.now r proposal }
 {
-    if !runs::fits_set(&v, r) {
+    if !runs::fits_set(&v, &r) {
         return runs::refuse(r, Reason::StateDoesNotFit, 0);
     }
     if r.awaited.is_some() {

@@ -52,24 +52,24 @@ fn tick_at(t: Task, x: TaskState, o: Outcome, k: usize) -> Ticked
 
 // For each place, worked out once.
 #[tactic(auto, unfolding(crate::specs::Report::tick_at))]
-fn tick_all(s: Set, xs: [TaskState; 7], o: Outcome) -> [Ticked; 7]
-    ensures { result ≡ seven (tick_at s xs o) }
+fn tick_all(f: &Fitting, o: Outcome) -> [Ticked; 7]
+    ensures { result ≡ seven (tick_at f.now.v.set f.now.run.states o) }
 {
-    array::from_fn(|k| tick_at(s.tasks[k], xs[k], o, k))
+    array::from_fn(|k| tick_at(f.v.set.tasks[k], f.run.states[k], o, k))
 }
 
 // Whether a tick of the first n is not possible.
-fn has_impossible(ts: [Ticked; 7], n: usize) -> bool
+fn has_impossible(ts: &[Ticked; 7], n: usize) -> bool
     requires { n ≤ 7 }
-    ensures { result ≡ list_any is_impossible (take n ts) }
+    ensures { result ≡ list_any is_impossible (take n ts.now) }
 {
     ts[..n].iter().any(|t| matches!(t, Ticked::Impossible))
 }
 
 // The lowest of the first n, from 0, that is a miss.
-fn first_missed(ts: [Ticked; 7], n: usize) -> Option<usize>
+fn first_missed(ts: &[Ticked; 7], n: usize) -> Option<usize>
     requires { n ≤ 7 }
-    ensures { result ≡ position is_missed (take n ts) }
+    ensures { result ≡ position is_missed (take n ts.now) }
 {
     ts[..n].iter().position(|t| matches!(t, Ticked::Missed))
 }
@@ -92,11 +92,18 @@ fn state_after(x: TaskState, t: Ticked) -> TaskState
     }
 }
 
+// The state in place k after its tick, of n tasks. No plainer: `runs::place` would have it worked out beyond the tasks too.
+fn state_then(n: usize, x: TaskState, t: Ticked, k: usize) -> TaskState
+    ensures { result ≡ (if nat_lt k n then state_after x t else x) }
+{
+    if k < n { state_after(x, t) } else { x }
+}
+
 // The states after the ticks, of n tasks.
 fn move_states(n: usize, xs: [TaskState; 7], ts: [Ticked; 7]) -> [TaskState; 7]
     ensures { result ≡ seven (λ k. (if nat_lt k n then state_after (state_at xs k) (ticked ts k) else state_at xs k)) }
 {
-    array::from_fn(|k| runs::place(n, k, state_after(xs[k], ts[k]), xs[k]))
+    array::from_fn(|k| state_then(n, xs[k], ts[k], k))
 }
 
 // The counts of a task after its tick.
@@ -112,12 +119,24 @@ fn counts_after(x: TaskState, n: Counts, f: Flags) -> Counts
     }
 }
 
+// The counts in place k after an outcome, of n tasks. No plainer, as `state_then`.
+fn counts_then(n: usize, x: TaskState, m: Counts, o: Outcome, k: usize) -> Counts
+    requires { (k < 7) × Small m }
+    ensures { result ≡ (if nat_lt k n then counts_after x m (flags_at o k) else m) }
+{
+    if k < n {
+        counts_after(x, m, flags_at(o, k))
+    } else {
+        m
+    }
+}
+
 // The counts after an outcome, of n tasks.
 fn move_counts(n: usize, xs: [TaskState; 7], ns: [Counts; 7], o: Outcome) -> [Counts; 7]
     requires { (k : ℕ) → k < 7 → Small (counts_at ns k) }
     ensures { result ≡ seven (λ k. (if nat_lt k n then counts_after (state_at xs k) (counts_at ns k) (flags_at o k) else counts_at ns k)) }
 {
-    array::from_fn(|k| runs::place(n, k, counts_after(xs[k], ns[k], flags_at(o, k)), ns[k]))
+    array::from_fn(|k| counts_then(n, xs[k], ns[k], o, k))
 }
 
 // The run after an outcome with these ticks.
@@ -148,11 +167,11 @@ fn report_named(f: &Fitting, o: Outcome) -> Answered<()>
     if is_stray(&f.v, o) {
         return runs::refuse(f.run, Reason::ImpossibleOutcome, 0);
     }
-    let ts = tick_all(f.v.set, f.run.states, o);
-    if has_impossible(ts, n) {
+    let ts = tick_all(f, o);
+    if has_impossible(&ts, n) {
         return runs::refuse(f.run, Reason::ImpossibleOutcome, 0);
     }
-    match first_missed(ts, n) {
+    match first_missed(&ts, n) {
         Some(k) => runs::refuse(f.run, Reason::HardMiss, (k + 1) as u32),
         None => Answered {
             answer: Ok(()),
@@ -192,7 +211,7 @@ pub fn report(s: Set, r: Run, reading: u32, finished: bool, arrivals: u8) -> Ans
             run: r,
         },
         Ok(v) => {
-            if !runs::fits_set(&v, r) {
+            if !runs::fits_set(&v, &r) {
                 return runs::refuse(r, Reason::StateDoesNotFit, 0);
             }
             report_awaited(&Fitting { v, run: r }, reading, finished, arrivals)

@@ -21,7 +21,7 @@ pub struct Counts {
     pub replaced: u32,
 }
 
-// A run by value has an array of states: `index_of` and `is_legal` take it alone.
+// A run by value has an array of states: `index_of` takes it alone.
 // A run: each task's state and counts, the ticks, the substitutions, the last reading, and the choice whose report is awaited.
 #[derive(Clone, Copy, Debug, PartialEq, Eq)]
 pub struct Run {
@@ -83,7 +83,7 @@ pub(crate) fn refuse<T>(run: Run, reason: Reason, place: u32) -> Answered<T>
 }
 
 // What place k holds: for one of n tasks the new, else what stands beyond.
-pub(crate) fn place<T: Copy>(n: usize, k: usize, task: T, beyond: T) -> T
+fn place<T: Copy>(n: usize, k: usize, task: T, beyond: T) -> T
     ensures { result ≡ (if nat_lt k n then task else beyond) }
 {
     if k < n { task } else { beyond }
@@ -146,9 +146,9 @@ fn is_empty(x: TaskState, n: Counts) -> bool
 
 // Whether the place of task k + 1 fits.
 #[tactic(auto, unfolding(crate::specs::Runs::place_fits))]
-fn place_fits(s: Set, r: Run, k: usize) -> bool
+fn place_fits(s: &Set, r: &Run, k: usize) -> bool
     requires { k < 7 }
-    ensures { result ≡ place_fits s r k }
+    ensures { result ≡ place_fits s.now r.now k }
 {
     let x = r.states[k];
     let n = r.counts[k];
@@ -161,37 +161,35 @@ fn place_fits(s: Set, r: Run, k: usize) -> bool
 
 // Whether a choice is idle or a runnable task.
 #[tactic(auto, using(game::proofs::StateLaws::count_le), unfolding(crate::specs::Runs::legal_for))]
-pub(crate) fn is_legal(v: &ValidSet, xs: [TaskState; 7], choice: usize) -> bool
-    ensures { result ≡ legal_for v.now.set xs choice }
+pub(crate) fn is_legal(v: &ValidSet, r: &Run, choice: usize) -> bool
+    ensures { result ≡ legal_for v.now.set r.now.states choice }
 {
-    ticks::is_legal(v.set, choice, |k| xs[k])
+    ticks::is_legal(&v.set, choice, |k| r.states[k])
 }
 
 // Whether what is awaited fits.
-fn awaited_fits(v: &ValidSet, r: Run) -> bool
-    ensures { result ≡ awaited_fits v.now.set r r.awaited }
+fn awaited_fits(v: &ValidSet, r: &Run) -> bool
+    ensures { result ≡ awaited_fits v.now.set r.now r.now.awaited }
 {
     match r.awaited {
         None => r.substitutions <= r.ticks,
         Some(c) => {
-            r.ticks < TICK_LIMIT
-                && r.substitutions <= r.ticks + 1
-                && is_legal(v, r.states, usize::from(c))
+            r.ticks < TICK_LIMIT && r.substitutions <= r.ticks + 1 && is_legal(v, r, usize::from(c))
         }
     }
 }
 
 // Whether every place of a run fits.
-fn places_fit(s: Set, r: Run) -> bool
-    ensures { result ≡ all_below 7 (place_fits s r) }
+fn places_fit(s: &Set, r: &Run) -> bool
+    ensures { result ≡ all_below 7 (place_fits s.now r.now) }
 {
     (0..7).all(|k| place_fits(s, r, k))
 }
 
 // Whether a run fits a set.
 #[tactic(auto, unfolding(crate::specs::Runs::fits))]
-pub(crate) fn fits_set(v: &ValidSet, r: Run) -> bool
-    ensures { result ≡ fits v.now.set r }
+pub(crate) fn fits_set(v: &ValidSet, r: &Run) -> bool
+    ensures { result ≡ fits v.now.set r.now }
 {
-    r.ticks <= TICK_LIMIT && awaited_fits(v, r) && places_fit(v.set, r)
+    r.ticks <= TICK_LIMIT && awaited_fits(v, r) && places_fit(&v.set, r)
 }

@@ -63,9 +63,9 @@ fn is_fine(state: &State, table: &[u8], choice: usize) -> bool
     requires { states_of state.now.v.set ≤ length table.now }
     ensures { result ≡ fine (arena_of state.now.v.set) (live table.now) state.now.index choice }
 {
-    let s = state.v.set;
-    ticks::is_legal(s, choice, |k| states::state_of(s.tasks[k], state.locals[k]))
-        && walk_on(state, table, choice, s.count as usize, 0)
+    ticks::is_legal(&state.v.set, choice, |k| {
+        states::state_of(state.v.set.tasks[k], state.locals[k])
+    }) && walk_on(state, table, choice, state.v.set.count as usize, 0)
 }
 
 // What is left of the entry of state i.
