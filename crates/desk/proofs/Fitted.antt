@@ -22,7 +22,7 @@ use Rattle.table_file.specs.Files.{header_length}
 use Rattle.table_file.specs.Open.{open_of, part_of, handed}
 use Rattle.table_file.proofs.Opening.{opening}
 use Rattle.desk_buffers.specs.Buffers.{Buffers, length_after, buffers_after}
-use Rattle.desk.specs.After.{opened_length, built, written, opened, printed, tables_after, Held, no_desk, set_held, run_held, buffer_held, tables_held, command_after}
+use Rattle.desk.specs.After.{opened_length, built, written, opened, printed, tables_after, Held, held_over, no_desk, set_held, run_held, buffer_held, tables_held, command_after}
 use Rattle.desk.specs.Fitted.{Fitted}
 
 -- ONE BUFFER
@@ -110,7 +110,7 @@ command_fitted c line h w f = step (eqb c.kind kind.reset) (leb c.kind kind.text
   where
     step : (t u v x : Bool) →
         Fitted
-        (cond t (no_desk h.buffers.table h.buffers.work h.buffers.file h.buffers.text)
+        (cond t (held_over no_desk h.buffers.table h.buffers.work h.buffers.file h.buffers.text)
         (cond u (buffer_held c.kind c.values line h)
         (cond v (set_held c.kind c.values line h)
         (cond x (tables_held c.kind c.values line h) (run_held c.kind c.values line h))))).buffers.lengths

@@ -13,6 +13,7 @@ use Rattle.reporter.specs.Report.{Left, report_of}
 use Rattle.guard.specs.declared.runs.Run.{Run}
 use Rattle.guard.specs.Runs.{start_run}
 use Rattle.desk.specs.declared.Desk.{Desk}
+use Rattle.desk.specs.declared.LentDesk.{LentDesk}
 use Rattle.desk_buffers.specs.Bytes.{put_at}
 use Rattle.desk_buffers.specs.Buffers.{Buffers, buffers_of, held_in, Same, buffers_after}
 use Rattle.desk.specs.Steps.{set_after, text_after, run_after}
@@ -88,12 +89,16 @@ pub record Held : Type 0 where
   pub run : Run
   pub buffers : Buffers
 
--- what a desk holds
-abbrev pub held_of : Desk → Held
+-- what a desk holds over these bytes
+abbrev pub held_over : Desk → List ℕ → List ℕ → List ℕ → List ℕ → Held
+held_over d t w f x = record { set = d.set; run = d.run; buffers = buffers_of d.lengths t w f x }
+
+-- what a lent desk holds
+abbrev pub held_of : LentDesk → Held
 held_of d = record { set = d.set; run = d.run; buffers = held_in d.buffers }
 
--- the desk d has become e, over the same four buffers, and holds h
-pub record Leaves (d e : Desk) (h : Held) : Type 0 where
+-- the lent desk d has become e, over the same four buffers, and holds h
+pub record Leaves (d e : LentDesk) (h : Held) : Type 0 where
   pub same : Same d.buffers e.buffers
   pub holds : held_of e ≡ h
 
@@ -101,8 +106,8 @@ pub record Leaves (d e : Desk) (h : Held) : Type 0 where
 abbrev pub no_lengths : Lengths
 no_lengths = record { table = 0; work = 0; file = 0; text = 0 }
 
-abbrev pub no_desk : List ℕ → List ℕ → List ℕ → List ℕ → Held
-no_desk t w f x = record { set = no_set; run = start_run 0 0; buffers = buffers_of no_lengths t w f x }
+abbrev pub no_desk : Desk
+no_desk = record { set = no_set; run = start_run 0 0; lengths = no_lengths }
 
 module _ (k : ℕ) (vs : Values) (line : List ℕ) (h : Held) where
   abbrev b : Buffers
@@ -129,7 +134,7 @@ module _ (k : ℕ) (vs : Values) (line : List ℕ) (h : Held) where
   -- the kinds stand in groups: reset; buffers; set and sheet; table and file; run
   unfoldable pub command_after : Held
   command_after =
-      cond (eqb k kind.reset) (no_desk b.table b.work b.file b.text)
+      cond (eqb k kind.reset) (held_over no_desk b.table b.work b.file b.text)
       (cond (leb k kind.text) buffer_held
       (cond (leb k kind.test_set) set_held
       (cond (leb k kind.print) tables_held run_held)))

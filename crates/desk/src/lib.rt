@@ -8,7 +8,7 @@ mod set_fields;
 mod table_commands;
 
 ghost use Rattle.std.specs.Prelude.{◌≡◌};
-ghost use Rattle.desk.specs.After.{held_of, Leaves, no_desk, command_after};
+ghost use Rattle.desk.specs.After.{held_over, held_of, Leaves, no_desk, command_after};
 
 use commands::buffers::Lengths;
 use commands::kinds;
@@ -21,44 +21,64 @@ use tasks::refusals::Refusal;
 use tasks::sets;
 use tasks::sets::Set;
 
-// All that is held: a set, a run, and four lent buffers.
+// What is held beside the bytes of the buffers.
+#[derive(Clone, Copy, Debug, PartialEq, Eq)]
+pub struct Desk {
+    pub set: Set,
+    pub run: Run,
+    pub lengths: Lengths,
+}
+
+// All that is held: a desk's set and run, and four lent buffers with its lengths.
 #[derive(Drop)]
-pub struct Desk<'a> {
+pub struct LentDesk<'a> {
     pub set: Set,
     pub run: Run,
     pub buffers: Buffers<'a>,
 }
 
-const NO_LENGTHS: Lengths = Lengths {
-    table: 0,
-    work: 0,
-    file: 0,
-    text: 0,
-};
-
-// Everything as at the beginning, over these four buffers.
-pub fn fresh<'a>(
-    table: &'a mut [u8],
-    work: &'a mut [u8],
-    file: &'a mut [u8],
-    text: &'a mut [u8],
-) -> Desk<'a>
-    ensures same_table { result.buffers.table.ghost_name ≡ table.entry.ghost_name }
-    ensures same_work { result.buffers.work.ghost_name ≡ work.entry.ghost_name }
-    ensures same_file { result.buffers.file.ghost_name ≡ file.entry.ghost_name }
-    ensures same_text { result.buffers.text.ghost_name ≡ text.entry.ghost_name }
-    ensures value { held_of result ≡ no_desk table.old work.old file.old text.old }
+// Everything as at the beginning.
+pub fn fresh() -> Desk
+    ensures { result ≡ no_desk }
 {
     Desk {
         set: sets::no_set(),
         run: runs::fresh_run(0, 0),
-        buffers: Buffers {
-            table,
-            work,
-            file,
-            text,
-            lengths: NO_LENGTHS,
+        lengths: Lengths {
+            table: 0,
+            work: 0,
+            file: 0,
+            text: 0,
         },
+    }
+}
+
+impl Desk {
+    // This desk over these four buffers.
+    pub fn over<'a>(
+        self,
+        table: &'a mut [u8],
+        work: &'a mut [u8],
+        file: &'a mut [u8],
+        text: &'a mut [u8],
+    ) -> LentDesk<'a>
+        ensures same_table { result.buffers.table.ghost_name ≡ table.entry.ghost_name }
+        ensures same_work { result.buffers.work.ghost_name ≡ work.entry.ghost_name }
+        ensures same_file { result.buffers.file.ghost_name ≡ file.entry.ghost_name }
+        ensures same_text { result.buffers.text.ghost_name ≡ text.entry.ghost_name }
+        ensures value { held_of result ≡ held_over self table.old work.old file.old text.old }
+    {
+        LentDesk {
+            set: self.set,
+            run: self.run,
+            buffers: Buffers {
+                table,
+                work,
+                file,
+                text,
+                lengths: self.lengths,
+            },
+        }
     }
 }
 
@@ -80,15 +100,16 @@ fn number<T: Copy + Display>(rt: &impl Print, before: &[u8], answer: Result<T, R
 
 // A command.
 #[tactic(auto, unfolding(crate::specs::After::command_after))]
-pub fn carry_out(rt: &impl Print, c: Command, line: &[u8], d: &mut Desk<'_>)
+pub fn carry_out(rt: &impl Print, c: Command, line: &[u8], d: &mut LentDesk<'_>)
     ensures { Leaves d.old d.new (command_after c.kind c.values line.now (held_of d.old)) }
 {
     match c.kind {
         kinds::RESET => {
             say::ok(rt);
-            d.set = sets::no_set();
-            d.run = runs::fresh_run(0, 0);
-            d.buffers.lengths = NO_LENGTHS;
+            let desk = fresh();
+            d.set = desk.set;
+            d.run = desk.run;
+            d.buffers.lengths = desk.lengths;
         }
         kinds::FILL..=kinds::TEXT => desk_buffers::carry_out(rt, c, line, &mut d.buffers),
         kinds::READ..=kinds::TEST_SET => {

@@ -5,7 +5,7 @@ ghost use Rattle.guard.specs.Ask.{ask_of};
 ghost use Rattle.guard.specs.Report.{report_of};
 ghost use Rattle.desk.specs.Steps.{run_after};
 
-use crate::{Desk, run_fields};
+use crate::{LentDesk, run_fields};
 use commands::kinds;
 use commands::lines::Command;
 use desk_buffers::{bytes, say};
@@ -74,7 +74,7 @@ fn show(rt: &impl Print, r: Run) {
 
 // A command on the run, and the run after it.
 #[tactic(auto, unfolding(crate::specs::Steps::run_after))]
-pub fn carry_out(rt: &impl Print, c: Command, d: &Desk<'_>) -> Run
+pub fn carry_out(rt: &impl Print, c: Command, d: &LentDesk<'_>) -> Run
     ensures { result ≡ run_after c.kind c.values d.now.set (take d.now.buffers.lengths.table d.now.buffers.table.now) d.now.run }
 {
     let vs = c.values;

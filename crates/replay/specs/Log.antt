@@ -3,8 +3,8 @@ use Rattle.std.specs.Prelude.{ℕ, ◌≡◌, ◌+◌, ◌%◌, ◌^◌, cond, L
 use Rattle.commands.specs.declared.lines.Command.{Command}
 use Rattle.commands.specs.Lines.{parse_of}
 use Rattle.desk_buffers.specs.Buffers.{Same}
-use Rattle.desk.specs.After.{Held, held_of, no_desk, command_after}
-use Rattle.desk.specs.declared.Desk.{Desk}
+use Rattle.desk.specs.After.{Held, held_over, held_of, no_desk, command_after}
+use Rattle.desk.specs.declared.LentDesk.{LentDesk}
 use Rattle.replay.specs.declared.Log.{Log}
 
 -- a mangled line changes nothing
@@ -24,18 +24,18 @@ pub record Logged : Type 0 where
   pub used : ℕ
   pub lines : ℕ
 
-abbrev pub logged_of : Log → Desk → Logged
+abbrev pub logged_of : Log → LentDesk → Logged
 logged_of g d = record { held = held_of d; line = g.line.now; used = g.used; lines = g.lines }
 
--- the log g and the desk d have become k and e, over the same memory, and what is kept is n
-pub record Goes (g k : Log) (d e : Desk) (n : Logged) : Type 0 where
+-- the log g and the lent desk d have become k and e, over the same memory, and what is kept is n
+pub record Goes (g k : Log) (d e : LentDesk) (n : Logged) : Type 0 where
   pub same : Same d.buffers e.buffers
   pub line : k.line.ghost_name ≡ g.line.ghost_name
   pub kept : logged_of k e ≡ n
 
 -- at the beginning nothing is held, and no byte is read
 abbrev pub no_log : List ℕ → List ℕ → List ℕ → List ℕ → List ℕ → Logged
-no_log line t w f x = record { held = no_desk t w f x; line = line; used = 0; lines = 0 }
+no_log line t w f x = record { held = held_over no_desk t w f x; line = line; used = 0; lines = 0 }
 
 -- an LF ends the line
 unfoldable pub ended_line : Logged → Logged

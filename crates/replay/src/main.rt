@@ -6,7 +6,7 @@ ghost use Rattle.desk.specs.After.{held_of, Leaves};
 ghost use Rattle.replay.specs.Log.{line_after, logged_of, Goes, no_log, ended_line, byte_after, piece_after};
 
 use commands::{buffers, lines};
-use desk::Desk;
+use desk::LentDesk;
 use desk_buffers::{bytes, say};
 use std::io::Read;
 
@@ -28,10 +28,10 @@ fn begun<'a>(
     work: &'a mut [u8],
     file: &'a mut [u8],
     text: &'a mut [u8],
-) -> (Log<'a>, Desk<'a>)
+) -> (Log<'a>, LentDesk<'a>)
     ensures { logged_of result.0 result.1 ≡ no_log line.old table.old work.old file.old text.old }
 {
-    let desk = desk::fresh(table, work, file, text);
+    let desk = desk::fresh().over(table, work, file, text);
     let log = Log {
         line,
         used: 0,
@@ -41,7 +41,7 @@ fn begun<'a>(
 }
 
 // A line: mangled, it is named and nothing is touched.
-fn answer(rt: &impl Print, line: &[u8], number: u64, d: &mut Desk<'_>)
+fn answer(rt: &impl Print, line: &[u8], number: u64, d: &mut LentDesk<'_>)
     ensures { Leaves d.old d.new (line_after line.now (held_of d.old)) }
 {
     match lines::parse(line, d.buffers.lengths) {
@@ -52,7 +52,7 @@ fn answer(rt: &impl Print, line: &[u8], number: u64, d: &mut Desk<'_>)
 
 // The line's end.
 #[tactic(auto, unfolding(crate::specs::Log::ended_line))]
-fn end_line(rt: &impl Print, g: &mut Log<'_>, d: &mut Desk<'_>)
+fn end_line(rt: &impl Print, g: &mut Log<'_>, d: &mut LentDesk<'_>)
     ensures { Goes g.old g.new d.old d.new (ended_line (logged_of g.old d.old)) }
 {
     let number = g.lines.wrapping_add(1);
@@ -65,7 +65,7 @@ fn end_line(rt: &impl Print, g: &mut Log<'_>, d: &mut Desk<'_>)
 
 // A byte of the log.
 #[tactic(auto, unfolding(crate::specs::Log::byte_after))]
-fn take_byte(rt: &impl Print, b: u8, g: &mut Log<'_>, d: &mut Desk<'_>)
+fn take_byte(rt: &impl Print, b: u8, g: &mut Log<'_>, d: &mut LentDesk<'_>)
     ensures { Goes g.old g.new d.old d.new (byte_after b (logged_of g.old d.old)) }
 {
     if b == b'\n' {
@@ -80,7 +80,7 @@ fn take_byte(rt: &impl Print, b: u8, g: &mut Log<'_>, d: &mut Desk<'_>)
 }
 
 // A piece of the log.
-fn take_piece(rt: &impl Print, piece: &[u8], g: &mut Log<'_>, d: &mut Desk<'_>)
+fn take_piece(rt: &impl Print, piece: &[u8], g: &mut Log<'_>, d: &mut LentDesk<'_>)
     ensures { Goes g.old g.new d.old d.new (piece_after piece.now (logged_of g.old d.old)) }
 {
     for b in piece {
@@ -89,7 +89,12 @@ fn take_piece(rt: &impl Print, piece: &[u8], g: &mut Log<'_>, d: &mut Desk<'_>)
 }
 
 // One piece of standard input, if there is one: an empty piece ends the log, and so does a read that fails.
-fn take_some<R: Read>(rt: &impl Print, input: &mut R, g: &mut Log<'_>, d: &mut Desk<'_>) -> bool {
+fn take_some<R: Read>(
+    rt: &impl Print,
+    input: &mut R,
+    g: &mut Log<'_>,
+    d: &mut LentDesk<'_>,
+) -> bool {
     let mut piece = [0u8; 65536];
     let n = input.read(&mut piece).unwrap_or(0);
     take_piece(rt, &piece[..n], g, d);
@@ -97,7 +102,7 @@ fn take_some<R: Read>(rt: &impl Print, input: &mut R, g: &mut Log<'_>, d: &mut D
 }
 
 // Piece by piece, to the end: no log has as many pieces as there are turns.
-fn read_log<R: Read>(rt: &impl Print, input: &mut R, g: &mut Log<'_>, d: &mut Desk<'_>) {
+fn read_log<R: Read>(rt: &impl Print, input: &mut R, g: &mut Log<'_>, d: &mut LentDesk<'_>) {
     for _ in 0..u64::MAX {
         if !take_some(rt, input, g, d) {
             return;
